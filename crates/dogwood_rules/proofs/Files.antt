@@ -11,7 +11,7 @@ use Rattle.dogwood_rules.proofs.Below.{and-true}
 use lib.ListN.{length, take, drop}
 use lib.Seq.{take-append-seam}
 use Rattle.dogwood_rules.specs.Basic.{trim, dropBack, orDrop, runLength, cut, cutAfter}
-use Rattle.dogwood_rules.specs.Token.{Token, Kind, Whitespace, Comment, token, tokenise, white, next, lineEnd, letter}
+use Rattle.dogwood_rules.specs.Token.{Token, Kind, Whitespace, Comment, token, tokenise, white, next, lineEnd, letter, spell}
 use Rattle.dogwood_rules.specs.Tree.{blank, comment, isComment, isWhitespace}
 use Rattle.dogwood_rules.specs.Layout.{Settings, layout, joinLines}
 use Rattle.dogwood_rules.specs.Outline.{balanced}
@@ -20,7 +20,7 @@ use Rattle.dogwood_rules.specs.Claims.{nonblank, cutRight}
 use Rattle.dogwood_rules.proofs.Runs.{run-more, run-none, run-passes, run-stops}
 use Rattle.dogwood_rules.proofs.Rules.{Rule, r1, r2, r3, r4, r5, r6, r6′, r7, rule-gives, inLine, made}
 use Rattle.dogwood_rules.proofs.Cutting.{cut-front}
-use Rattle.dogwood_rules.proofs.Spaced.{Spaced, Reads, Read, source, says, withWord, withWords, white-skip, nonblank-blank}
+use Rattle.dogwood_rules.proofs.Spaced.{Spaced, Reads, Read, says, withWord, withWords, white-skip, nonblank-blank}
 use Rattle.dogwood_rules.proofs.Trim.{lf-white, back-keeps, empty-spaced}
 use Rattle.dogwood_rules.proofs.Laid.{AllBlank, blanks-end, blanks-more}
 use Rattle.dogwood_rules.proofs.Trees.{AllSound}
@@ -223,7 +223,7 @@ parts-say S k′ (parts-more {ts} {ps} p a) n =
 
 abbrev pub pieceWords : Piece → List Token
 pieceWords (remark t) = cutRight t ∷ []
-pieceWords (laid k ps) = wordsAll ps
+pieceWords (laid ps) = wordsAll ps
 
 abbrev pub piecesWords : List Piece → List Token
 piecesWords [] = []
@@ -231,7 +231,7 @@ piecesWords (p ∷ ps) = pieceWords p ++ piecesWords ps
 
 pub data Sane : Piece → Type 0 where
   sane-remark : {t : Token} (k : List ℕ) → comment t ≡ true → Read t k → Sane (remark t)
-  sane-laid : {k : ℕ} {ps : List (List Token)} → AllParts ps → Sane (laid k ps)
+  sane-laid : {ps : List (List Token)} → AllParts ps → Sane (laid ps)
 
 pub data AllSane : List Piece → Type 0 where
   sane-end : AllSane []
@@ -256,13 +256,13 @@ behind-ended : (S : Settings) (p : Piece) (ps : List Piece) → LineEnded (behin
 unfolding behind gapAfter
 behind-ended S p [] = line-end
 behind-ended S (remark t) (q ∷ qs) = line-lf
-behind-ended S (laid k ts) (q ∷ qs) = line-lf
+behind-ended S (laid ts) (q ∷ qs) = line-lf
 
 behind-says : (S : Settings) (p : Piece) (ps : List Piece) → says (behind S p ps) ≡ says (joinPieces S ps)
 unfolding behind gapAfter joinPieces
 behind-says S p [] = refl
 behind-says S (remark t) (q ∷ qs) = white-skip 10 (joinPieces S (q ∷ qs)) lf-white
-behind-says S (laid k ts) (q ∷ qs) = white-skip 10 (10 ∷ joinPieces S (q ∷ qs)) lf-white ∙ white-skip 10 (joinPieces S (q ∷ qs)) lf-white
+behind-says S (laid ts) (q ∷ qs) = white-skip 10 (10 ∷ joinPieces S (q ∷ qs)) lf-white ∙ white-skip 10 (joinPieces S (q ∷ qs)) lf-white
 
 -- THE LAYOUT OF A FILE says the words of its pieces, and leaves nothing
 pub file-says : (S : Settings) {ps : List Piece} → AllSane ps → says (joinPieces S ps) ≡ (piecesWords ps, [])

@@ -5,13 +5,13 @@ use mathlib.Core.List.{List, [], _∷_, _++_, append-nil, append-assoc}
 use Prim.Native.Nat.{ℕ, zero, suc, _+_, _*_}
 use native.Mathlib.Omega.{arith}
 use Rattle.dogwood_rules.specs.Basic.{trim}
-use Rattle.dogwood_rules.specs.Token.{Token, white}
+use Rattle.dogwood_rules.specs.Token.{Token, white, spell}
 use Rattle.dogwood_rules.specs.Tree.{blank, tokensOf, runOf}
 use Rattle.dogwood_rules.specs.Layout.{Settings, layout, walk, fitOr}
 use Rattle.dogwood_rules.specs.Outline.{balanced}
 use Rattle.dogwood_rules.specs.Claims.{nonblank}
 use Rattle.dogwood_rules.proofs.Follow.{Follow, f-end, f-white}
-use Rattle.dogwood_rules.proofs.Spaced.{Spaced, Reads, nothing-read, blank-read, word-read, Read, source, says, withWords, spaced-says, nonblank-blank, nonblank-word}
+use Rattle.dogwood_rules.proofs.Spaced.{Spaced, Reads, nothing-read, blank-read, word-read, Read, says, withWords, spaced-says, nonblank-blank, nonblank-word}
 use Rattle.dogwood_rules.proofs.Trim.{AllSolid}
 use Rattle.dogwood_rules.proofs.Laid.{AllBlank, blanks-end, blanks-more, Trimmed, trimmed, walk-spaced, run-spaced, solid-trim}
 use Rattle.dogwood_rules.proofs.Trees.{AllSound, Tree, tree, good-solid}
@@ -25,16 +25,16 @@ layout-spaced S d ts a e =
 
 -- Parts of tokens that are read -------------------------------------------------------------------------------
 
-pub source-append : (ts us : List Token) → source (ts ++ us) ≡ source ts ++ source us
-unfolding source
-source-append [] us = refl
-source-append (t ∷ ts) us = ap (λ (l : List ℕ). t .text ++ l) (source-append ts us) ∙ sym (append-assoc (t .text) (source ts) (source us))
+pub spell-append : (ts us : List Token) → spell (ts ++ us) ≡ spell ts ++ spell us
+unfolding spell
+spell-append [] us = refl
+spell-append (t ∷ ts) us = ap (λ (l : List ℕ). t .text ++ l) (spell-append ts us) ∙ sym (append-assoc (t .text) (spell ts) (spell us))
 
-reads-front : {k : List ℕ} (ts us : List Token) → Reads k (ts ++ us) → Reads (source us ++ k) ts
+reads-front : {k : List ℕ} (ts us : List Token) → Reads k (ts ++ us) → Reads (spell us ++ k) ts
 reads-front [] us r = nothing-read
 reads-front (t ∷ ts) us (blank-read b r) = blank-read b (reads-front ts us r)
 reads-front {k} (t ∷ ts) us (word-read b p d r) =
-    word-read b p (subst (λ (l : List ℕ). Read t l) (ap (λ (l : List ℕ). l ++ k) (source-append ts us) ∙ append-assoc (source ts) (source us) k) d) (reads-front ts us r)
+    word-read b p (subst (λ (l : List ℕ). Read t l) (ap (λ (l : List ℕ). l ++ k) (spell-append ts us) ∙ append-assoc (spell ts) (spell us) k) d) (reads-front ts us r)
 
 reads-back : {k : List ℕ} (ts us : List Token) → Reads k (ts ++ us) → Reads k us
 reads-back [] us r = r
@@ -74,11 +74,11 @@ pub layout-says : (S : Settings) (d : ℕ) (ts : List Token) (k k′ : List ℕ)
 layout-says S d ts k k′ a e r n =
     let t = trimmed ts in
     let inner : Reads k (trim blank ts ++ t .right) = reads-back (t .left) (trim blank ts ++ t .right) (subst (λ (l : List Token). Reads k l) (t .whole) r) in
-    let mid : Reads (source (t .right) ++ k) (trim blank ts) = reads-front (trim blank ts) (t .right) inner in
-    spaced-says (source (t .right) ++ k) k′ (ended-follow (source (t .right) ++ k) n) (layout-spaced S d ts a e) mid .same
+    let mid : Reads (spell (t .right) ++ k) (trim blank ts) = reads-front (trim blank ts) (t .right) inner in
+    spaced-says (spell (t .right) ++ k) k′ (ended-follow (spell (t .right) ++ k) n) (layout-spaced S d ts a e) mid .same
     ∙ ap (λ (l : List Token). withWords l (says k′)) (sym (same t mid))
   where
-    same : (t : Trimmed ts (trim blank ts)) → Reads (source (t .right) ++ k) (trim blank ts) → nonblank ts ≡ nonblank (trim blank ts)
+    same : (t : Trimmed ts (trim blank ts)) → Reads (spell (t .right) ++ k) (trim blank ts) → nonblank ts ≡ nonblank (trim blank ts)
     same t mid =
         ap nonblank (t .whole) ∙ nonblank-blanks (trim blank ts ++ t .right) (t .leftBlank) ∙ nonblank-append (trim blank ts) (t .right) mid
         ∙ ap (λ (l : List Token). nonblank (trim blank ts) ++ l) (blanks-words (t .rightBlank)) ∙ append-nil (nonblank (trim blank ts))

@@ -7,15 +7,16 @@ use Prim.Native.Nat.{ℕ, zero, suc, _+_}
 use native.Mathlib.Omega.{arith}
 use lib.Dec.{ltb}
 use Rattle.dogwood_rules.specs.Basic.{every, if_then_else_}
-use Rattle.dogwood_rules.specs.Token.{Token, Kind, Whitespace, Comment, String, Identifier, Number, Symbol, Other, Placed}
+use Rattle.dogwood_rules.specs.Token.{Token, Kind, Whitespace, Comment, String, Identifier, Number, Symbol, Other, Placed, spell, tokens}
 use Rattle.dogwood_rules.specs.Tree.{blank, comment, isComment, isWhitespace}
-use Rattle.dogwood_rules.specs.Outline.{Span, Statement, upTo, from, tokens, within, beyond, partsOf, plain, gapsOk, balanced, eachOk, coveredOk, balanceOk, spansOf}
-use Rattle.dogwood_rules.specs.File.{Piece, remark, laid, remarks, pieces, commentIn, firstComment, orElse}
+use Rattle.dogwood_rules.specs.Outline.{Span, Statement, upTo, from, within, beyond, partsOf, plain, gapsOk, balanced, eachOk, coveredOk, balanceOk, spansOf}
+use Rattle.dogwood_rules.specs.File.{Piece, remark, laid, remarks, pieces}
+use Rattle.dogwood_rules.specs.Searches.{commentIn, firstComment, orElse}
 use Rattle.dogwood_rules.specs.Claims.{nonblank, cutRight}
 use Rattle.dogwood_rules.proofs.Below.{and-true}
-use Rattle.dogwood_rules.proofs.Spaced.{source, nonblank-blank, Read}
+use Rattle.dogwood_rules.proofs.Spaced.{nonblank-blank, Read}
 use Rattle.dogwood_rules.proofs.Laid.{AllBlank, blanks-end, blanks-more}
-use Rattle.dogwood_rules.proofs.Layouts.{blanks-words, source-append}
+use Rattle.dogwood_rules.proofs.Layouts.{blanks-words, spell-append}
 use Rattle.dogwood_rules.proofs.Chains.{Chain, chain-end, chain-more}
 use Rattle.dogwood_rules.proofs.Solids.{NoComment, no-comment-end, no-comment, usable}
 use Rattle.dogwood_rules.proofs.Files.{wordsAll, Part, AllParts, parts-end, parts-more, pieceWords, piecesWords, Sane, sane-remark, sane-laid, AllSane, sane-end, sane-more}
@@ -45,10 +46,10 @@ nonblank-app (t ∷ ts) us = go (nonblank-app ts us) (blank t) refl
     go h true e = rw (e, nonblank) h
     go h false e = rw (e, nonblank) (ap (λ (l : List Token). cutRight t ∷ l) h)
 
-chain-front : {k : List ℕ} (ts us : List Token) → Chain k (ts ++ us) → Chain (source us ++ k) ts
+chain-front : {k : List ℕ} (ts us : List Token) → Chain k (ts ++ us) → Chain (spell us ++ k) ts
 chain-front [] us c = chain-end
 chain-front {k} (t ∷ ts) us (chain-more r c) =
-    chain-more (subst (λ (l : List ℕ). Read t l) (ap (λ (l : List ℕ). l ++ k) (source-append ts us) ∙ append-assoc (source ts) (source us) k) r) (chain-front ts us c)
+    chain-more (subst (λ (l : List ℕ). Read t l) (ap (λ (l : List ℕ). l ++ k) (spell-append ts us) ∙ append-assoc (spell ts) (spell us) k) r) (chain-front ts us c)
 
 chain-back : {k : List ℕ} (ts us : List Token) → Chain k (ts ++ us) → Chain k us
 chain-back [] us c = c
@@ -96,7 +97,7 @@ remarks-say {k} (t ∷ ts) (chain-more r c) e =
     go : quiet t ≡ true → Said (remarks ts) ts → (b : Bool) → comment t ≡ b → Said (remarks (t ∷ ts)) (t ∷ ts)
     go q h true w =
         rw (remarks, w)
-        (record { sane = sane-more (sane-remark (source ts ++ k) w r) (h .sane); same = ap (λ (l : List Token). cutRight t ∷ l) (h .same) ∙ sym (loud (comment-not-blank (t .kind) w)) })
+        (record { sane = sane-more (sane-remark (spell ts ++ k) w r) (h .sane); same = ap (λ (l : List Token). cutRight t ∷ l) (h .same) ∙ sym (loud (comment-not-blank (t .kind) w)) })
       where
         loud : blank t ≡ false → nonblank (t ∷ ts) ≡ cutRight t ∷ nonblank ts
         loud b = rw (b, nonblank) refl
@@ -131,7 +132,7 @@ parts-split {k} (s ∷ ss) ps c n g b =
     let n₂ : NoComment (i ++ o) = free-back u (i ++ o) n₁ in
     let h = parts-split ss (beyond s ps) (chain-back i o c₂) (free-back i o n₂) (g₁ .1) (b₁ .1) in
     record {
-      parts = parts-more (record { behind = source o ++ k; usable = usable (chain-front i o c₂) (free-front i o n₂); balance = b₁ .0 }) (h .parts);
+      parts = parts-more (record { behind = spell o ++ k; usable = usable (chain-front i o c₂) (free-front i o n₂); balance = b₁ .0 }) (h .parts);
       same =
           ap (λ (l : List Token). nonblank i ++ l) (h .same) ∙ sym (nonblank-app i o)
           ∙ sym (nonblank-app u (i ++ o) ∙ ap (λ (l : List Token). l ++ nonblank (i ++ o)) (blanks-words (gap-blank u (g₁ .0) (free-front u (i ++ o) n₁))))
@@ -183,7 +184,7 @@ pieces-say {k} (s ∷ ss) ps c f g v b =
     record {
       sane = sane-append (r .sane) (sane-more (sane-laid (h .parts)) (t .sane));
       same =
-          piecesWords-append (remarks u) (laid (s .kind) (partsOf (s .parts) (within (s .span) ps)) ∷ pieces ss (beyond (s .span) ps))
+          piecesWords-append (remarks u) (laid (partsOf (s .parts) (within (s .span) ps)) ∷ pieces ss (beyond (s .span) ps))
           ∙ ap (λ (l : List Token). l ++ (wordsAll (partsOf (s .parts) (within (s .span) ps)) ++ piecesWords (pieces ss (beyond (s .span) ps)))) (r .same)
           ∙ ap (λ (l : List Token). nonblank u ++ (l ++ piecesWords (pieces ss (beyond (s .span) ps)))) (h .same)
           ∙ ap (λ (l : List Token). nonblank u ++ (nonblank i ++ l)) (t .same)

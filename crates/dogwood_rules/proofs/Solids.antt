@@ -10,7 +10,7 @@ use lib.ListN.{length, take, drop}
 use lib.Seq.{take-append-seam}
 use borrow.Author.Tests.{ne-eqb, eqb-true}
 use Rattle.dogwood_rules.specs.Basic.{cut, cutAfter, runLength, dropFront, dropBack, orDrop, same}
-use Rattle.dogwood_rules.specs.Token.{Token, Kind, Whitespace, Comment, token, tokenise, next, closing, white, wordly, digit, letter, single, other, double}
+use Rattle.dogwood_rules.specs.Token.{Token, Kind, Whitespace, Comment, token, tokenise, next, closing, white, wordly, digit, letter, single, other, double, spell}
 use Rattle.dogwood_rules.specs.Tree.{blank, comment, opener, closer, isWhitespace, isComment}
 use Rattle.dogwood_rules.specs.Layout.{Settings, layout}
 use Rattle.dogwood_rules.specs.Outline.{balanced}
@@ -19,7 +19,7 @@ use Rattle.dogwood_rules.proofs.Runs.{run-more, run-none}
 use Rattle.dogwood_rules.proofs.Rules.{Rule, r1, r2, r3, r4, r5, r6, r6′, r7, rule-of, inLine}
 use Rattle.dogwood_rules.proofs.Calm.{Plain, white-calm, not-double, up, closing-escaped, closing-quote, closing-plain, up-some, closing-pos}
 use Rattle.dogwood_rules.proofs.Trim.{front-keeps, back-keeps}
-use Rattle.dogwood_rules.proofs.Spaced.{Read, source, Solid, Reads, nothing-read, blank-read, word-read, says, withWords}
+use Rattle.dogwood_rules.proofs.Spaced.{Read, Solid, Reads, nothing-read, blank-read, word-read, says, withWords}
 use Rattle.dogwood_rules.proofs.Trees.{AllSound, sound-end, sound-blank, sound-word}
 use Rattle.dogwood_rules.proofs.Chains.{Chain, chain-end, chain-more, tokenise-made, closing-none}
 use Rattle.dogwood_rules.proofs.Layouts.{layout-says, Ended, ended-end}
@@ -150,7 +150,7 @@ usable {k} (chain-more {t} {ts} r c) (no-comment n m) = go (usable c m) (blank t
         record { sound = sound-blank e (not-opener t (r .first) (r .more) (r .text) w) (not-closer t (r .first) (r .more) (r .text) w) (u .sound); reads = blank-read e (u .reads) }
     go u false e =
         let p = kind-plain (t .kind) e n in
-        record { sound = sound-word e (read-solid t (source ts ++ k) p r) (u .sound); reads = word-read e p r (u .reads) }
+        record { sound = sound-word e (read-solid t (spell ts ++ k) p r) (u .sound); reads = word-read e p r (u .reads) }
 
 -- NUMBER 3 FOR ONE RUN. A text without a string without end and without comments, balanced: its layout, at any depth and with any settings,
 -- reads as the same tokens but for white space.

@@ -8,7 +8,7 @@ use native.Mathlib.Omega.{arith}
 use lib.ListN.{length, take, drop}
 use lib.Seq.{take-append-seam}
 use Rattle.dogwood_rules.specs.Basic.{runLength, cut, dropFront, dropBack}
-use Rattle.dogwood_rules.specs.Token.{Token, Kind, Whitespace, Comment, String, Identifier, Number, Symbol, Other, white, token, tokenise}
+use Rattle.dogwood_rules.specs.Token.{Token, Kind, Whitespace, Comment, String, Identifier, Number, Symbol, Other, white, token, tokenise, spell}
 use Rattle.dogwood_rules.specs.Tree.{blank, comment, isWhitespace, isComment}
 use Rattle.dogwood_rules.specs.Claims.{nonblank, cutRight}
 use Rattle.dogwood_rules.proofs.Runs.{run-more, run-none}
@@ -45,11 +45,6 @@ white-skip x (y ∷ k) w = white-run x (y ∷ k) w ∙ go (white y) refl
 
 -- The source -------------------------------------------------------------------------------------------
 
--- the text of some tokens
-unfoldable pub source : List Token → List ℕ
-source [] = []
-source (t ∷ ts) = t .text ++ source ts
-
 -- a token that is neither white space nor a comment, and is read at the front of its text with more behind it
 pub record Read (t : Token) (k : List ℕ) : Type 0 where
   pub first : ℕ
@@ -74,7 +69,7 @@ follow-read t k k′ p f r =
 pub data Reads (k : List ℕ) : List Token → Type 0 where
   nothing-read : Reads k []
   blank-read : {t : Token} {ts : List Token} → blank t ≡ true → Reads k ts → Reads k (t ∷ ts)
-  word-read : {t : Token} {ts : List Token} → blank t ≡ false → Plain (t .kind) → Read t (source ts ++ k) → Reads k ts → Reads k (t ∷ ts)
+  word-read : {t : Token} {ts : List Token} → blank t ≡ false → Plain (t .kind) → Read t (spell ts ++ k) → Reads k ts → Reads k (t ∷ ts)
 
 -- a text that neither begins nor ends in white space
 pub record Solid (cs : List ℕ) : Type 0 where
@@ -100,7 +95,7 @@ spaced-append (s-drop b w s) q = s-drop b w (spaced-append s q)
 -- what is behind the tokens in the source, and behind the text now
 pub record Kept (ts : List Token) (o k k′ : List ℕ) : Type 0 where
   pub same : says (o ++ k′) ≡ withWords (nonblank ts) (says k′)
-  pub follows : Follow (source ts ++ k) (o ++ k′)
+  pub follows : Follow (spell ts ++ k) (o ++ k′)
 
 plain-kind : (k : Kind) → Plain k → isComment k ≡ false
 unfolding isComment
@@ -129,18 +124,18 @@ unfolding says
 says-word t k b p r =
     ap (λ (x : List Token × List ℕ). (nonblank (x .0), x .1)) (read-tokenise t k r) ∙ ap (λ (l : List Token). (l, tokenise k .1)) (nonblank-word t (tokenise k .0) b p)
 
-word-step : (t : Token) (ts : List Token) (o k k′ : List ℕ) → blank t ≡ false → Plain (t .kind) → Read t (source ts ++ k) → Kept ts o k k′ → Kept (t ∷ ts) (t .text ++ o) k k′
-unfolding source
+word-step : (t : Token) (ts : List Token) (o k k′ : List ℕ) → blank t ≡ false → Plain (t .kind) → Read t (spell ts ++ k) → Kept ts o k k′ → Kept (t ∷ ts) (t .text ++ o) k k′
+unfolding spell
 word-step t ts o k k′ b p r h =
     record {
       same =
           ap says (append-assoc (t .text) o k′)
-          ∙ says-word t (o ++ k′) b p (follow-read t (source ts ++ k) (o ++ k′) p (h .follows) r)
+          ∙ says-word t (o ++ k′) b p (follow-read t (spell ts ++ k) (o ++ k′) p (h .follows) r)
           ∙ ap (withWord t) (h .same)
           ∙ ap (λ (l : List Token). withWords l (says k′)) (sym (nonblank-word t ts b p));
       follows =
-          subst (λ (l : List ℕ). Follow ((l ++ source ts) ++ k) ((l ++ o) ++ k′)) (sym (r .text))
-          (f-same (r .first) ((r .more ++ o) ++ k′) ((r .more ++ source ts) ++ k) refl);
+          subst (λ (l : List ℕ). Follow ((l ++ spell ts) ++ k) ((l ++ o) ++ k′)) (sym (r .text))
+          (f-same (r .first) ((r .more ++ o) ++ k′) ((r .more ++ spell ts) ++ k) refl);
     }
 
 white-step : (ts : List Token) (x : ℕ) (o k k′ : List ℕ) → white x ≡ true → Kept ts o k k′ → Kept ts (x ∷ o) k k′
@@ -151,7 +146,7 @@ drop-step t ts x o k k′ b w h =
     record { same = h .same ∙ ap (λ (l : List Token). withWords l (says k′)) (sym (nonblank-blank t ts b)); follows = f-white x (o ++ k′) w }
 
 pub spaced-says : {ts : List Token} {o : List ℕ} (k k′ : List ℕ) → Follow k k′ → Spaced ts o → Reads k ts → Kept ts o k k′
-unfolding nonblank source
+unfolding nonblank spell
 spaced-says k k′ f s-end r = record { same = refl; follows = f }
 spaced-says k k′ f (s-word {t} {ts} {o} b v s) (blank-read b′ r) = absurd (let z : _≡_ {A = ℕ} 0 1 = cc in omega arith)
 spaced-says k k′ f (s-word {t} {ts} {o} b v s) (word-read b′ p rd r) = word-step t ts o k k′ b p rd (spaced-says k k′ f s r)

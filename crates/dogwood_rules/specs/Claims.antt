@@ -3,13 +3,13 @@ use mathlib.Core.Path.{_≡_}
 use mathlib.Core.List.{List, [], _∷_, _++_}
 use Prim.Native.Nat.{ℕ}
 use Rattle.dogwood_rules.specs.Basic.{if_then_else_, dropBack}
-use Rattle.dogwood_rules.specs.Utf8.{decode, encode}
+use Rattle.dogwood_rules.specs.Utf8.{decode, encode, markOf, textOf}
 use Rattle.dogwood_rules.specs.Token.{Token, white, tokenise, placed}
 use Rattle.dogwood_rules.specs.Tree.{blank, comment}
 use Rattle.dogwood_rules.specs.Layout.{Settings}
 use Rattle.dogwood_rules.specs.Outline.{statements}
 use Rattle.dogwood_rules.specs.File.{Piece, pieces, joinPieces}
-use Rattle.dogwood_rules.specs.Answer.{answer, markOf, textOf}
+use Rattle.dogwood_rules.specs.Answer.{answer}
 
 -- a comment's white space at the right does not count
 unfoldable pub cutRight : Token → Token

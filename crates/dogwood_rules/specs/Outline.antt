@@ -7,7 +7,7 @@ use Prim.Native.Nat.{ℕ, zero, suc, _+_, _-_, _*_}
 use lib.Dec.{T, leb, ltb, eqb}
 use lib.ListN.{length}
 use Rattle.dogwood_rules.specs.Basic.{if_then_else_, every, some?, keepIf, cut}
-use Rattle.dogwood_rules.specs.Token.{Token, Placed}
+use Rattle.dogwood_rules.specs.Token.{Token, Placed, tokens}
 use Rattle.dogwood_rules.specs.Tree.{blank, comment, opener, closer}
 
 pub record Span : Type 0 where
@@ -25,7 +25,7 @@ unfoldable pub addSpan : ℕ → ℕ → Option (List Span) → Option (List Spa
 addSpan a b none = none
 addSpan a b (some ss) = some (record { start = a; stop = b } ∷ ss)
 
--- n pairs of a start and an end
+-- 01: "start and end of each part". n pairs of a start and an end
 unfoldable pub spans : ℕ → List ℕ → Option (List Span)
 spans zero ws = some []
 spans (suc n) [] = none
@@ -36,7 +36,8 @@ unfoldable pub withParts : ℕ → ℕ → ℕ → ℕ → Option (List Span) �
 withParts k a b n none = none
 withParts k a b n (some ps) = some (record { kind = k; span = record { start = a; stop = b }; parts = ps }, 3 + 2 * n)
 
--- the record at the front, with how many words it has besides the first
+-- 01: "statement records: kind (0 definition, 1 policy), start, end, number of parts, then start and end of each part". The record at the front, with
+-- how many words it has besides the first
 unfoldable pub statement : List ℕ → Option (Statement × ℕ)
 statement [] = none
 statement (k ∷ []) = none
@@ -44,7 +45,8 @@ statement (k ∷ a ∷ []) = none
 statement (k ∷ a ∷ b ∷ []) = none
 statement (k ∷ a ∷ b ∷ n ∷ ws) = withParts k a b n (spans n ws)
 
--- the statements of an outline, and the words from the first that is no whole record on
+-- 01: "An outline is a run of statement records .. No words is an outline of no statements." The statements, and the words from the first that is no
+-- whole record on
 unfoldable pub statements : List ℕ → List Statement × List ℕ
 statements ws = cut statement ws
 
@@ -58,10 +60,6 @@ upTo n (p ∷ ps) = elim (ltb (p .start) n) [ true ↦ p ∷ upTo n ps | false �
 unfoldable pub from : ℕ → List Placed → List Placed
 from n [] = []
 from n (p ∷ ps) = elim (ltb (p .start) n) [ true ↦ from n ps | false ↦ p ∷ ps ]
-
-unfoldable pub tokens : List Placed → List Token
-tokens [] = []
-tokens (p ∷ ps) = p .token ∷ tokens ps
 
 -- the tokens of a span, and those behind it
 unfoldable pub within : Span → List Placed → List Placed
@@ -86,12 +84,12 @@ unfoldable pub gapsOk : List Span → List Placed → Bool
 gapsOk [] ps = every (λ (t : Token). not (plain t)) (tokens ps)
 gapsOk (s ∷ ss) ps = every (λ (t : Token). not (plain t)) (tokens (upTo (s .start) ps)) && gapsOk ss (beyond s ps)
 
--- spans between two places: start below end, each starting at or after the one before ends
+-- 01: "start below end, end within the text, each starting at or after the one before ends". Spans between two places
 unfoldable pub ascending : ℕ → ℕ → List Span → Bool
 ascending low high [] = true
 ascending low high (s ∷ ss) = leb low (s .start) && ltb (s .start) (s .stop) && leb (s .stop) high && ascending (s .stop) high ss
 
--- a bracket depth that never falls below 0 and ends at 0
+-- 01: "counting `( [ {` as +1 and `) ] }` as -1, the depth never falls below 0 and ends at 0"
 unfoldable pub balanced : ℕ → List Token → Bool
 balanced d [] = eqb d 0
 balanced d (t ∷ ts) =
@@ -100,7 +98,7 @@ balanced d (t ∷ ts) =
 unfoldable pub sameSpan : Span → Span → Bool
 sameSpan s u = eqb (s .start) (u .start) && eqb (s .stop) (u .stop)
 
--- the one part of a definition is its span
+-- 01: "a definition has one part, equal to its span"
 unfoldable pub onlyPart : Span → List Span → Bool
 onlyPart s [] = false
 onlyPart s (p ∷ []) = sameSpan s p
@@ -115,24 +113,28 @@ unfoldable pub eachOk : (Statement → List Placed → Bool) → List Statement 
 eachOk f [] ps = true
 eachOk f (s ∷ ss) ps = f s (within (s .span) ps) && eachOk f ss (beyond (s .span) ps)
 
+-- 01: "Kinds are 0 or 1; a definition has one part, equal to its span."
 unfoldable pub kindOk : Statement → Bool
 kindOk s = eqb (s .kind) 1 || eqb (s .kind) 0 && onlyPart (s .span) (s .parts)
 
+-- 01: "Parts are the same within their statement."
 unfoldable pub partsOk : Statement → Bool
 partsOk s = ascending (s .span .start) (s .span .stop) (s .parts)
 
--- each word of a statement lies in a part; it has a word; its parts are balanced
+-- 01: "A token in a statement that is neither white space nor comment lies in a part"
 unfoldable pub coveredOk : Statement → List Placed → Bool
 coveredOk s ps = gapsOk (s .parts) ps
 
+-- .. "and each statement has such a token"
 unfoldable pub plainOk : Statement → List Placed → Bool
 plainOk s ps = some? plain (tokens ps)
 
+-- 01: "In each part" the depth is balanced
 unfoldable pub balanceOk : Statement → List Placed → Bool
 balanceOk s ps = every (balanced 0) (partsOf (s .parts) ps)
 
 module _ (end : ℕ) (ps : List Placed) where
-  -- a token's start, or the text's end
+  -- 01: "Every start and end is a token's start or the text's end."
   unfoldable pub boundary : ℕ → Bool
   boundary n = eqb n end || some? (λ (p : Placed). eqb n (p .start)) ps
 
@@ -142,16 +144,25 @@ module _ (end : ℕ) (ps : List Placed) where
   unfoldable pub boundsOk : Statement → Bool
   boundsOk s = boundaries (s .span) && every boundaries (s .parts)
 
-  -- the outline fits the text of that many bytes and these tokens: a field for each sentence
+  -- the outline fits the text of that many bytes and these tokens: a field for each sentence of "When an outline fits", the sixth in its two halves
   pub record Fits (words : List ℕ) : Type 0 where
+    -- "Records are read exactly, no word left over."
     pub exact : eqb (length (statements words .1)) 0 ≡ true
+    -- "Kinds are 0 or 1; a definition has one part, equal to its span."
     pub kinds : every kindOk (statements words .0) ≡ true
+    -- "Statements have start below end, end within the text, each starting at or after the one before ends."
     pub apart : ascending 0 end (spansOf (statements words .0)) ≡ true
+    -- "Parts are the same within their statement."
     pub parts : every partsOk (statements words .0) ≡ true
+    -- "Every start and end is a token's start or the text's end."
     pub bounds : every boundsOk (statements words .0) ≡ true
+    -- "A token in a statement that is neither white space nor comment lies in a part,
     pub covered : eachOk coveredOk (statements words .0) ps ≡ true
+    -- and each statement has such a token."
     pub used : eachOk plainOk (statements words .0) ps ≡ true
+    -- "Outside statements stand only white space and comments."
     pub outside : gapsOk (spansOf (statements words .0)) ps ≡ true
+    -- "In each part, counting `( [ {` as +1 and `) ] }` as -1, the depth never falls below 0 and ends at 0."
     pub balance : eachOk balanceOk (statements words .0) ps ≡ true
 
   -- the same as one test

@@ -1,4 +1,4 @@
--- White space, the seven token rules, and the tokens of a text. A text is a list of code points.
+-- White space, the seven token rules, the tokens of a text, their places, and the words of the token table. A text is a list of code points.
 use mathlib.Core.Bool.{Bool, true, false, not, _&&_, _||_}
 use mathlib.Core.List.{List, [], _∷_, _++_}
 use mathlib.Core.Option.{Option, none, some}
@@ -8,10 +8,10 @@ use lib.ListN.{take}
 use Rattle.dogwood_rules.specs.Basic.{if_then_else_, within, oneOf, runLength, cut}
 use Rattle.dogwood_rules.specs.Utf8.{byteLength}
 
+-- 01: "Kinds: 0 Whitespace, 1 Comment, 2 String, 3 Identifier, 4 Number, 5 Symbol, 6 Other."
 pub data Kind : Type 0 where
   Whitespace Comment String Identifier Number Symbol Other : Kind
 
--- the number of a kind in the token table
 unfoldable pub kindNumber : Kind → ℕ
 kindNumber Whitespace = 0
 kindNumber Comment = 1
@@ -27,7 +27,7 @@ pub record Token : Type 0 where
 
 -- Characters ------------------------------------------------------------------------------------
 
--- the Unicode property White_Space
+-- 01: "White space is U+0009 to 000D, 0020, 0085, 00A0, 1680, 2000 to 200A, 2028, 2029, 202F, 205F, 3000."
 unfoldable pub white : ℕ → Bool
 white c = within 0x9 0xd c || eqb c 0x20 || eqb c 0x85 || eqb c 0xa0 || eqb c 0x1680 || within 0x2000 0x200a c || eqb c 0x2028 || eqb c 0x2029 || eqb c 0x202f || eqb c 0x205f || eqb c 0x3000
 
@@ -38,6 +38,7 @@ digit c = within 48 57 c
 unfoldable pub letter : ℕ → Bool
 letter c = within 65 90 c || within 97 122 c || eqb c 95
 
+-- an ASCII letter, a digit or _
 unfoldable pub wordly : ℕ → Bool
 wordly c = letter c || digit c
 
@@ -45,14 +46,16 @@ wordly c = letter c || digit c
 unfoldable pub single : ℕ → Bool
 single c = oneOf (40 ∷ 41 ∷ 91 ∷ 93 ∷ 123 ∷ 125 ∷ 44 ∷ 59 ∷ 64 ∷ 46 ∷ 58 ∷ 63 ∷ 43 ∷ 45 ∷ 42 ∷ 47 ∷ 37 ∷ 33 ∷ 60 ∷ 62 ∷ 61 ∷ []) c
 
--- :: == != <= >= && ||
+-- == != <= >=, and :: && ||
 unfoldable pub double : ℕ → ℕ → Bool
 double a b =
     eqb b 61 && oneOf (61 ∷ 33 ∷ 60 ∷ 62 ∷ []) a || eqb a b && oneOf (58 ∷ 38 ∷ 124 ∷ []) a
 
+-- LF or CR
 unfoldable pub lineEnd : ℕ → Bool
 lineEnd c = eqb c 10 || eqb c 13
 
+-- 01: "free of white space, `"`, ASCII letters and digits, `_` and the single symbols. `&` and `|` do not end it."
 unfoldable pub other : ℕ → Bool
 other c = not (white c || eqb c 34 || wordly c || single c)
 
@@ -67,7 +70,8 @@ next f (c ∷ cs) = f c
 unfoldable pub piece : Kind → ℕ → List ℕ → ℕ → Option (Token × ℕ)
 piece k c cs n = some (record { kind = k; text = c ∷ take n cs }, n)
 
--- behind an opening quote, or behind a backslash there: how many characters up to the closing quote, itself included
+-- 01: "to the next unescaped `"`, a backslash escaping the one character after it; newlines are allowed inside".
+-- Behind the opening quote, or behind a backslash there: how many characters up to the closing quote, itself included
 unfoldable pub closing : Bool → List ℕ → Option ℕ
 closing escaped [] = none
 closing true (c ∷ cs) = elim (closing false cs) [ none ↦ none | some n ↦ some (suc n) ]
@@ -78,7 +82,8 @@ unfoldable pub stringPiece : ℕ → List ℕ → Option ℕ → Option (Token �
 stringPiece c cs none = none
 stringPiece c cs (some n) = piece String c cs n
 
--- the token at the front, with how many characters it has besides the first: the first rule that applies decides. None: a string without end
+-- 01: "At each place the first rule that applies decides": 1 white space, 2 `"`, 3 `//`, 4 ASCII letter or `_`, 5 ASCII digit, 6 the double symbols,
+-- else the single ones, 7 Other. The token, with how many characters it has besides the first; none: a string without end
 unfoldable pub token : List ℕ → Option (Token × ℕ)
 token [] = none
 token (c ∷ cs) =
@@ -95,6 +100,11 @@ token (c ∷ cs) =
 unfoldable pub tokenise : List ℕ → List Token × List ℕ
 tokenise cs = cut token cs
 
+-- the text that some tokens make up
+unfoldable pub spell : List Token → List ℕ
+spell [] = []
+spell (t ∷ ts) = t .text ++ spell ts
+
 -- Places ------------------------------------------------------------------------------------------
 
 -- a token with its bounds, in bytes
@@ -103,8 +113,18 @@ pub record Placed : Type 0 where
   pub start : ℕ
   pub stop : ℕ
 
+-- one behind the other, from a place on
 unfoldable pub placed : ℕ → List Token → List Placed
 placed at [] = []
 placed at (t ∷ ts) =
     let stop = at + byteLength (t .text) in
     record { token = t; start = at; stop = stop } ∷ placed stop ts
+
+unfoldable pub tokens : List Placed → List Token
+tokens [] = []
+tokens (p ∷ ps) = p .token ∷ tokens ps
+
+-- 01: "The token table gets three words a token: kind, start, end."
+unfoldable pub wordsOf : List Placed → List ℕ
+wordsOf [] = []
+wordsOf (p ∷ ps) = kindNumber (p .token .kind) ∷ p .start ∷ p .stop ∷ wordsOf ps

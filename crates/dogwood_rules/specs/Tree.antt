@@ -50,7 +50,7 @@ closer t = same (t .text) (41 ∷ []) || same (t .text) (93 ∷ []) || same (t .
 
 -- Flat text ----------------------------------------------------------------------------------------
 
--- a white-space token gives a space, others themselves
+-- 01: "a white-space token gives a space, others themselves"
 unfoldable pub shown : Token → List ℕ
 shown t = if blank t then 32 ∷ [] else t .text
 
@@ -58,13 +58,15 @@ unfoldable pub joined : List Token → List ℕ
 joined [] = []
 joined (t ∷ ts) = shown t ++ joined ts
 
--- white space at both ends dropped, each inner white-space token one space, the rest as it is
+-- 01: "Flat text of a token run: white space at both ends dropped, each inner white-space token one space, the rest as it is." Its width is its
+-- length: "Widths count code points."
 unfoldable pub flat : List Token → List ℕ
 flat ts = joined (trim blank ts)
 
 -- Runs as trees --------------------------------------------------------------------------------------
 
--- A run: tokens, and groups of an opener, an inside and its closer. A group has its inside twice: as tokens, and cut into its items.
+-- 01: "an opener is taken with its closing token as a group". A run: tokens, and groups of an opener, an inside and its closer. A group has its
+-- inside twice: as tokens, and cut into its items.
 mutual
   pub data Run : Type 0 where
     nothing : Run
@@ -82,7 +84,7 @@ tokensOf (group o inside is c r) = o ∷ inside ++ c ∷ tokensOf r
 
 -- Items ------------------------------------------------------------------------------------------------
 
--- white space at both ends of a run dropped
+-- 01: "Items are trimmed": white space at both ends of a run dropped
 unfoldable pub trimLeft : Run → Run
 trimLeft nothing = nothing
 trimLeft (single t r) = elim (blank t) [ true ↦ trimLeft r | false ↦ single t r ]
@@ -107,25 +109,25 @@ unfoldable pub front : (Run → Run) → Items → Items
 front f end = item (f nothing) end
 front f (item r is) = item (f r) is
 
--- a cut after each comma at depth 0
+-- 01: "first a cut after each comma at depth 0"
 unfoldable pub afterCommas : Run → Items
 afterCommas nothing = item nothing end
 afterCommas (single t r) = if comma t then item (single t nothing) (afterCommas r) else front (single t) (afterCommas r)
 afterCommas (group o inside is c r) = front (group o inside is c) (afterCommas r)
 
--- a cut before each && or || at depth 0
+-- 01: "then a cut before each `&&` or `||` at depth 0"
 unfoldable pub beforeAndOrs : Run → Items
 beforeAndOrs nothing = item nothing end
 beforeAndOrs (single t r) =
     let rest = front (single t) (beforeAndOrs r) in if andOr t then item nothing rest else rest
 beforeAndOrs (group o inside is c r) = front (group o inside is c) (beforeAndOrs r)
 
+-- 01: "Items are trimmed, flat-empty ones dropped"
 unfoldable pub addItem : Run → Items → Items
 addItem nothing is = is
 addItem (single t r) is = item (single t r) is
 addItem (group o inside js c r) is = item (group o inside js c r) is
 
--- each item trimmed, empty ones dropped
 unfoldable pub tidy : Items → Items
 tidy end = end
 tidy (item r is) = addItem (trimRun r) (tidy is)
@@ -135,7 +137,7 @@ several end = false
 several (item r end) = false
 several (item r (item s is)) = true
 
--- the two separator sets are tried in turn; if neither gives more than one item, the one item is the whole inside
+-- 01: "the first set that gives more than one item decides. If neither does, the one item is the whole inside, trimmed."
 unfoldable pub itemsOf : Run → Items
 itemsOf r =
     if several (tidy (afterCommas r)) then tidy (afterCommas r)
