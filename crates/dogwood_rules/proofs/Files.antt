@@ -40,7 +40,7 @@ line-ended line-end = ended-end
 line-ended line-lf = ended-white lf-white
 
 -- lists whose every element passes
-data AllPass (f : ℕ → Bool) : List ℕ → Type 0 where
+pub data AllPass (f : ℕ → Bool) : List ℕ → Type 0 where
   pass-end : AllPass f []
   pass-more : {c : ℕ} {cs : List ℕ} → f c ≡ true → AllPass f cs → AllPass f (c ∷ cs)
 
@@ -98,7 +98,7 @@ record IsRemark (c : ℕ) (more : List ℕ) (k : Kind) : Type 0 where
   second : more ≡ 47 ∷ rest
   passes : AllPass inLine rest
 
-slash-second : (c : ℕ) (more k : List ℕ) → eqb c 47 && next (eqb 47) (more ++ k) ≡ true → runLength inLine (more ++ k) ≡ length more → (rest : List ℕ) × (more ≡ 47 ∷ rest) × AllPass inLine rest
+pub slash-second : (c : ℕ) (more k : List ℕ) → eqb c 47 && next (eqb 47) (more ++ k) ≡ true → runLength inLine (more ++ k) ≡ length more → (rest : List ℕ) × (more ≡ 47 ∷ rest) × AllPass inLine rest
 slash-second c [] [] d q = absurd (let z = and-true (eqb c 47) false d .1 in let y : _≡_ {A = ℕ} 0 1 = cc in omega arith)
 slash-second c [] (x ∷ k) d q =
     let h = and-true (eqb c 47) (eqb 47 x) d .1 in

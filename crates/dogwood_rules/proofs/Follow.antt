@@ -22,13 +22,13 @@ pub data Follow (before : List ℕ) : List ℕ → Type 0 where
   f-same : (x : ℕ) (k k′ : List ℕ) → before ≡ x ∷ k′ → Follow before (x ∷ k)
 
 -- a run that ends at a place ends there too where nothing follows
-run-at-end : (f : ℕ → Bool) (cs k : List ℕ) → runLength f (cs ++ k) ≡ length cs → runLength f (cs ++ []) ≡ length cs
+pub run-at-end : (f : ℕ → Bool) (cs k : List ℕ) → runLength f (cs ++ k) ≡ length cs → runLength f (cs ++ []) ≡ length cs
 run-at-end f [] k e = refl
 run-at-end f (c ∷ cs) k e =
     let h = run-passes f c (cs ++ k) (length cs) e in
     run-more f c (cs ++ []) (h .0) ∙ ap suc (run-at-end f cs k (h .1))
 
-next-at-end : (f : ℕ → Bool) (cs k : List ℕ) → next f (cs ++ k) ≡ false → next f (cs ++ []) ≡ false
+pub next-at-end : (f : ℕ → Bool) (cs k : List ℕ) → next f (cs ++ k) ≡ false → next f (cs ++ []) ≡ false
 next-at-end f [] k e = refl
 next-at-end f (c ∷ cs) k e = e
 
@@ -36,7 +36,7 @@ next-same : (f : ℕ → Bool) (cs : List ℕ) (x : ℕ) (k k′ : List ℕ) →
 next-same f [] x k k′ e = e
 next-same f (c ∷ cs) x k k′ e = e
 
-and-false : (a b b′ : Bool) → (b ≡ false → b′ ≡ false) → a && b ≡ false → a && b′ ≡ false
+pub and-false : (a b b′ : Bool) → (b ≡ false → b′ ≡ false) → a && b ≡ false → a && b′ ≡ false
 and-false true b b′ f e = f e
 and-false false b b′ f e = refl
 

@@ -3,20 +3,21 @@ use mathlib.Core.Path.{_≡_, refl, sym, _∙_, ap, subst}
 use mathlib.Core.Bool.{Bool, true, false}
 use mathlib.Core.List.{List, [], _∷_, _++_}
 use mathlib.Core.Option.{Option, none, some}
-use Prim.Native.Nat.{ℕ, suc, _-_, _*_}
+use Prim.Native.Nat.{ℕ, _*_}
 use native.Mathlib.Omega.{arith}
-use lib.Dec.{ltb, leb, eqb}
-use lib.ListN.{length}
-use borrow.Author.Tests.{eqb-true}
-use Rattle.dogwood_rules.specs.Utf8.{decode, encode, byteLength, markOf, textOf}
+use lib.Dec.{ltb, leb}
+use lib.ListN.{length, drop}
+use lib.Seq.{drop-append-seam}
+use Rattle.dogwood_rules.specs.Utf8.{decode, encode, marked, markOf, textOf}
 use Rattle.dogwood_rules.specs.Token.{Token, Placed, tokenise, tokens, placed, spell, wordsOf}
-use Rattle.dogwood_rules.specs.Source.{Source, tooLong, notUtf8, unended, cutInto, cutUp, decoded, sourceOf}
+use Rattle.dogwood_rules.specs.Source.{Source, tooLong, notUtf8, unended, cutInto, sourceOf}
 use Rattle.dogwood_rules.specs.Layout.{Settings}
 use Rattle.dogwood_rules.specs.Outline.{statements, fits, Fits}
 use Rattle.dogwood_rules.specs.File.{Piece, pieces, joinPieces}
 use Rattle.dogwood_rules.specs.Searches.{firstComment, deepOpener}
 use Rattle.dogwood_rules.specs.Answer.{Answer, answer, answered, refused, checked, nested, filled, commented, fitted}
-use Rattle.dogwood_rules.specs.Claims.{nonblank, codesOf, tokensIn, piecesOf, layoutOf, Number3, Preserved}
+use Rattle.dogwood_rules.specs.Claims.{nonblank, codesOf, tokensIn, piecesOf, layoutOf, behindMark, Number3, Preserved, SameTokens}
+use Rattle.dogwood_rules.proofs.Wholes.{Whole, source-whole}
 use Rattle.dogwood_rules.proofs.Fitting.{fits-says}
 use Rattle.dogwood_rules.proofs.RoundTrip.{AllScalar, decode-encode}
 use Rattle.dogwood_rules.proofs.Decoding.{decode-sound}
@@ -25,57 +26,6 @@ use Rattle.dogwood_rules.proofs.Spaced.{says}
 use Rattle.dogwood_rules.proofs.Chains.{Chain, tokenise-made}
 use Rattle.dogwood_rules.proofs.Files.{file-says, piecesWords}
 use Rattle.dogwood_rules.proofs.Pieces.{Said, pieces-say}
-
--- What a source that is cut into tokens shows -----------------------------------------------------------------------------
-
-none-left : {A : Type 0} (l : List A) → eqb (length l) 0 ≡ true → l ≡ []
-none-left [] e = refl
-none-left (x ∷ xs) e = let z : suc (length xs) ≡ 0 = eqb-true (suc (length xs)) 0 e in absurd (omega arith)
-
--- the tokens that a source is cut into, none if it is not
-abbrev placedIn : Source → Option (List Placed)
-placedIn tooLong = none
-placedIn (notUtf8 place) = none
-placedIn (unended before place) = none
-placedIn (cutInto ps) = some ps
-
-pub record Whole (source : List ℕ) (ps : List Placed) : Type 0 where
-  pub valid : decode (textOf source) .1 ≡ []
-  pub ended : tokenise (decode (textOf source) .0) .1 ≡ []
-  pub cut : ps ≡ placed 0 (tokenise (decode (textOf source) .0) .0)
-
-some-same : {A : Type 0} (x y : A) → some x ≡ some y → x ≡ y
-some-same x y e = cc
-
-clash : {A B : Type 0} (x : A) → none ≡ some x → B
-clash x e = absurd (let z : _≡_ {A = ℕ} 0 1 = cc in omega arith)
-
-cut-whole : (source : List ℕ) (r : List Token × List ℕ) (ps : List Placed) → placedIn (cutUp source r) ≡ some ps → (r .1 ≡ []) × (ps ≡ placed 0 (r .0))
-unfolding cutUp
-cut-whole source r ps e = go (eqb (length (r .1)) 0) refl
-  where
-    go : (b : Bool) → eqb (length (r .1)) 0 ≡ b → (r .1 ≡ []) × (ps ≡ placed 0 (r .0))
-    go true q = (none-left (r .1) q, sym (some-same _ _ (rw q at e)))
-    go false q = clash ps (rw q at e)
-
-decoded-whole : (source : List ℕ) (r : List ℕ × List ℕ) (ps : List Placed) → placedIn (decoded source r) ≡ some ps
-    → (r .1 ≡ []) × (tokenise (r .0) .1 ≡ []) × (ps ≡ placed 0 (tokenise (r .0) .0))
-unfolding decoded
-decoded-whole source r ps e = go (eqb (length (r .1)) 0) refl
-  where
-    go : (b : Bool) → eqb (length (r .1)) 0 ≡ b → (r .1 ≡ []) × (tokenise (r .0) .1 ≡ []) × (ps ≡ placed 0 (tokenise (r .0) .0))
-    go true q = let h = cut-whole source (tokenise (r .0)) ps (rw q at e) in (none-left (r .1) q, h .0, h .1)
-    go false q = clash ps (rw q at e)
-
-pub source-whole : (source : List ℕ) (ps : List Placed) → sourceOf source ≡ cutInto ps → Whole source ps
-unfolding sourceOf
-source-whole source ps e = go (ltb 1048576 (length source)) refl
-  where
-    go : (b : Bool) → ltb 1048576 (length source) ≡ b → Whole source ps
-    go true q = clash ps (ap placedIn (rw q at e))
-    go false q =
-        let h = decoded-whole source (decode (textOf source)) ps (ap placedIn (rw q at e)) in
-        record { valid = h .0; ended = h .1; cut = h .2 }
 
 -- What an answer of 0 shows -----------------------------------------------------------------------------------------------
 
@@ -148,7 +98,7 @@ tokens-placed at [] = refl
 tokens-placed at (t ∷ ts) = ap (λ (l : List Token). t ∷ l) (tokens-placed _ ts)
 
 pub number3 : Number3
-unfolding layoutOf piecesOf tokensIn codesOf says
+unfolding layoutOf piecesOf tokensIn codesOf says behindMark
 number3 S source outline tableRoom outputRoom e =
     let z = answer-zero S source outline tableRoom outputRoom e in
     let cs = decode (textOf source) .0 in
@@ -164,7 +114,29 @@ number3 S source outline tableRoom outputRoom e =
     let plain : Plain-text (tokens ps) = subst Plain-text (sym (tokens-placed 0 ts)) (scalars-front (spell ts) (tokenise cs .1) all) in
     record {
       written = l .out;
-      readable = decode-encode (file-scalars S (p .sane) (plain-pieces ss ps plain));
+      readable =
+          ap decode (ap (drop (length (markOf source))) (l .out) ∙ drop-append-seam (markOf source) (encode (joinPieces S (pieces ss ps))))
+          ∙ decode-encode (file-scalars S (p .sane) (plain-pieces ss ps plain));
       whole = ap (λ (x : List Token × List ℕ). x .1) h;
       same = ap (λ (x : List Token × List ℕ). x .0) h ∙ p .same ∙ ap nonblank (tokens-placed 0 ts);
     }
+
+-- Two sources ----------------------------------------------------------------------------------------------------------
+
+same-mark : (a b : List ℕ) → marked a ≡ marked b → markOf a ≡ markOf b
+unfolding markOf
+same-mark a b e = rw e refl
+
+-- what stands behind the same marks of the same bytes is the same text
+pub same-tokens : SameTokens
+unfolding behindMark
+same-tokens S₁ S₂ source₁ source₂ outline₁ outline₂ table₁ table₂ room₁ room₂ m e₁ e₂ o =
+    let p₁ = number3 S₁ source₁ outline₁ table₁ room₁ e₁ in
+    let p₂ = number3 S₂ source₂ outline₂ table₂ room₂ e₂ in
+    let text : layoutOf S₁ source₁ outline₁ ≡ layoutOf S₂ source₂ outline₂ =
+    ap (λ (r : List ℕ × List ℕ). r .0)
+    (sym (p₁ .readable)
+    ∙ ap (λ (l : List ℕ). decode (drop (length l) (answer S₁ source₁ outline₁ table₁ room₁ .output))) (same-mark source₁ source₂ m)
+    ∙ ap (λ (l : List ℕ). decode (drop (length (markOf source₂)) l)) o
+    ∙ p₂ .readable) in
+    sym (p₁ .same) ∙ ap (λ (l : List ℕ). nonblank (tokenise l .0)) text ∙ p₂ .same

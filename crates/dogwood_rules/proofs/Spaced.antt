@@ -52,7 +52,7 @@ pub record Read (t : Token) (k : List ℕ) : Type 0 where
   pub text : t .text ≡ first ∷ more
   pub rule : Rule first (more ++ k) (t .kind) (length more)
 
-read-tokenise : (t : Token) (k : List ℕ) → Read t k → tokenise (t .text ++ k) ≡ (t ∷ tokenise k .0, tokenise k .1)
+pub read-tokenise : (t : Token) (k : List ℕ) → Read t k → tokenise (t .text ++ k) ≡ (t ∷ tokenise k .0, tokenise k .1)
 unfolding tokenise
 read-tokenise t k r =
     ap (λ (l : List ℕ). tokenise (l ++ k)) (r .text)

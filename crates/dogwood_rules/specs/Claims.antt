@@ -1,9 +1,10 @@
--- What is claimed of the layout: number 3 of the mission, and request [9].
+-- What is claimed of the layout: number 3 of the mission, and what follows from it for two sources.
 use mathlib.Core.Path.{_≡_}
 use mathlib.Core.List.{List, [], _∷_, _++_}
 use Prim.Native.Nat.{ℕ}
+use lib.ListN.{length, drop}
 use Rattle.dogwood_rules.specs.Basic.{if_then_else_, dropBack}
-use Rattle.dogwood_rules.specs.Utf8.{decode, encode, markOf, textOf}
+use Rattle.dogwood_rules.specs.Utf8.{decode, encode, marked, markOf, textOf}
 use Rattle.dogwood_rules.specs.Token.{Token, white, tokenise, placed}
 use Rattle.dogwood_rules.specs.Tree.{blank, comment}
 use Rattle.dogwood_rules.specs.Layout.{Settings}
@@ -11,11 +12,11 @@ use Rattle.dogwood_rules.specs.Outline.{statements}
 use Rattle.dogwood_rules.specs.File.{Piece, pieces, joinPieces}
 use Rattle.dogwood_rules.specs.Answer.{answer}
 
--- a comment's white space at the right does not count
+-- "comments cut at the right"
 unfoldable pub cutRight : Token → Token
 cutRight t = if comment t then record { kind = t .kind; text = dropBack white (t .text) } else t
 
--- the tokens that are not white space
+-- "non-whitespace tokens, in order, same kind and bytes, comments cut at the right"
 unfoldable pub nonblank : List Token → List Token
 nonblank [] = []
 nonblank (t ∷ ts) = if blank t then nonblank ts else cutRight t ∷ nonblank ts
@@ -34,10 +35,16 @@ piecesOf source outline = pieces (statements outline .0) (placed 0 (tokensIn sou
 unfoldable pub layoutOf : Settings → List ℕ → List ℕ → List ℕ
 layoutOf S source outline = joinPieces S (piecesOf source outline)
 
--- Number 3: whenever a call is answered 0, its output is the mark, if any, and a layout that tokenises to the same tokens but for white space
+-- "the output (after its copied mark)": not a mark that the layout may open with (01, "Wrong turns")
+unfoldable pub behindMark : List ℕ → List ℕ → List ℕ
+behindMark source output = drop (length (markOf source)) output
+
+-- Number 3: "When the answer is 0, the output (after its copied mark) tokenises to the source's non-whitespace tokens". It is said of number 2's layout,
+-- for the identity would do for the rest
 pub record Preserved (S : Settings) (source outline output : List ℕ) : Type 0 where
   pub written : output ≡ markOf source ++ encode (layoutOf S source outline)
-  pub readable : decode (encode (layoutOf S source outline)) ≡ (layoutOf S source outline, [])
+  -- all of it is UTF-8, and no string is without end
+  pub readable : decode (behindMark source output) ≡ (layoutOf S source outline, [])
   pub whole : tokenise (layoutOf S source outline) .1 ≡ []
   pub same : nonblank (tokenise (layoutOf S source outline) .0) ≡ nonblank (tokensIn source)
 
@@ -46,3 +53,13 @@ Number3 =
     (S : Settings) (source outline : List ℕ) (tableRoom outputRoom : ℕ)
     → answer S source outline tableRoom outputRoom .number ≡ 0
     → Preserved S source outline (answer S source outline tableRoom outputRoom .output)
+
+-- "So two sources, both with a mark or both without, laid out to the same bytes have the same such tokens." With any settings, outlines and rooms of each
+abbrev pub SameTokens : Type 0
+SameTokens =
+    (S₁ S₂ : Settings) (source₁ source₂ outline₁ outline₂ : List ℕ) (table₁ table₂ room₁ room₂ : ℕ)
+    → marked source₁ ≡ marked source₂
+    → answer S₁ source₁ outline₁ table₁ room₁ .number ≡ 0
+    → answer S₂ source₂ outline₂ table₂ room₂ .number ≡ 0
+    → answer S₁ source₁ outline₁ table₁ room₁ .output ≡ answer S₂ source₂ outline₂ table₂ room₂ .output
+    → nonblank (tokensIn source₁) ≡ nonblank (tokensIn source₂)

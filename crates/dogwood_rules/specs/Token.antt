@@ -2,7 +2,7 @@
 use mathlib.Core.Bool.{Bool, true, false, not, _&&_, _||_}
 use mathlib.Core.List.{List, [], _∷_, _++_}
 use mathlib.Core.Option.{Option, none, some}
-use Prim.Native.Nat.{ℕ, zero, suc, _+_}
+use Prim.Native.Nat.{ℕ, zero, suc, _+_, _<_}
 use lib.Dec.{leb, eqb}
 use lib.ListN.{take}
 use Rattle.dogwood_rules.specs.Basic.{if_then_else_, within, oneOf, runLength, cut}
@@ -123,6 +123,11 @@ placed at (t ∷ ts) =
 unfoldable pub tokens : List Placed → List Token
 tokens [] = []
 tokens (p ∷ ps) = p .token ∷ tokens ps
+
+-- 01: "Every byte of the text lies in exactly one token, and no token is empty." Tokens one behind the other from a place on, up to the end
+pub data Tiled (end : ℕ) : ℕ → List Placed → Type 0 where
+  tiled-end : Tiled end end []
+  tiled-more : {p : Placed} {ps : List Placed} → p .start < p .stop → Tiled end (p .stop) ps → Tiled end (p .start) (p ∷ ps)
 
 -- 01: "The token table gets three words a token: kind, start, end."
 unfoldable pub wordsOf : List Placed → List ℕ
