@@ -1,20 +1,18 @@
 -- White space ends every token but white space and a comment.
-use mathlib.Core.Path.{_≡_, refl, sym, _∙_, ap, subst}
+use mathlib.Core.Path.{_≡_, refl, sym, _∙_, ap}
 use mathlib.Core.Bool.{Bool, true, false, not, _&&_, _||_}
 use mathlib.Core.List.{List, [], _∷_, _++_}
 use mathlib.Core.Option.{Option, none, some}
-use Prim.Native.Nat.{ℕ, zero, suc, _+_, _<_, _≤_}
+use Prim.Native.Nat.{ℕ, suc, _+_, _<_, _≤_}
 use native.Mathlib.Omega.{arith}
 use lib.Dec.{ltb, leb, eqb}
-use lib.ListN.{length, take}
-use lib.Seq.{take-append-seam}
-use borrow.Author.Tests.{lt-leb, le-leb, ne-eqb, eqb-true, ltb-true, ltb-false}
-use Rattle.dogwood_rules.specs.Basic.{within, oneOf}
-use Rattle.dogwood_rules.specs.Token.{Token, Kind, Whitespace, Comment, String, Identifier, Number, Symbol, Other, next, white, letter, digit, wordly, single, double, other, lineEnd, closing, token, tokenise}
+use lib.ListN.{length}
+use borrow.Author.Tests.{lt-leb, ne-eqb, ltb-true, ltb-false}
+use Rattle.dogwood_rules.specs.Basic.{within}
+use Rattle.dogwood_rules.specs.Token.{Kind, Whitespace, Comment, next, white, letter, digit, wordly, single, double, other, closing}
 use Rattle.dogwood_rules.proofs.Below.{everyBelow, below, and-true, not-true}
 use Rattle.dogwood_rules.proofs.Runs.{run-stops, next-stops}
-use Rattle.dogwood_rules.proofs.Rules.{Rule, r1, r2, r3, r4, r5, r6, r6′, r7, rule-gives, rule-of, made}
-use Rattle.dogwood_rules.proofs.Cutting.{cut-front}
+use Rattle.dogwood_rules.proofs.Rules.{Rule, r1, r2, r3, r4, r5, r6, r6′, r7}
 
 -- a character that ends a word, a number, a symbol and other text
 pub record Calm (x : ℕ) : Type 0 where
@@ -153,13 +151,3 @@ stays c cs k k′ x d p w (r5 a b s f g e q) = r5 a b (slash-stops c cs k k′ x
 stays c cs k k′ x d p w (r6 a b s f g h e q) = r6 a b (slash-stops c cs k k′ x s w) f g (next-within (double c) cs k (x ∷ k′) q h) e q
 stays c cs k k′ x d p w (r6′ a b s f g h i e q) = r6′ a b (slash-stops c cs k k′ x s w) f g (next-stops (double c) cs k k′ x h (not-double c x a w)) i e q
 stays c cs k k′ x d p w (r7 a b s f g h i e q) = r7 a b (slash-stops c cs k k′ x s w) f g (next-stops (double c) cs k k′ x h (not-double c x a w)) i e (run-stops other cs k k′ x q (white-calm x w .noOther))
-
--- A token that stands at the front of some text, neither white space nor a comment, is read again where white space follows it.
-pub read-again : (t : Token) (c : ℕ) (cs k k′ : List ℕ) (x : ℕ) → t .text ≡ c ∷ cs → token (c ∷ (cs ++ k)) ≡ some (t, length cs) → Plain (t .kind) → white x ≡ true
-    → tokenise (t .text ++ x ∷ k′) ≡ (t ∷ tokenise (x ∷ k′) .0, tokenise (x ∷ k′) .1)
-unfolding tokenise
-read-again t c cs k k′ x e h p w =
-    ap (λ (l : List ℕ). tokenise (l ++ x ∷ k′)) e ∙ (cut-front token c cs (x ∷ k′) t (rule-gives c (cs ++ x ∷ k′) (t .kind) (length cs) (stays c cs k k′ x (t .kind) p w (rule-of c (cs ++ k) t (length cs) h .0)) ∙ same))
-  where
-    same : made c (cs ++ x ∷ k′) (t .kind) (length cs) ≡ some (t, length cs)
-    same = ap (λ (l : List ℕ). some (record { kind = t .kind; text = l }, length cs)) (ap (λ (l : List ℕ). c ∷ l) (take-append-seam cs (x ∷ k′)) ∙ sym e)

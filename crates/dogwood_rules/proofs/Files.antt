@@ -1,225 +1,185 @@
--- The layout of a whole file says what the file says.
+-- What the layout of a file is made of: it stands, spells the layout, and has the tokens of the file's pieces.
 use mathlib.Core.Path.{_≡_, refl, sym, _∙_, ap, subst}
-use mathlib.Core.Bool.{Bool, true, false, not, _&&_, _||_}
-use mathlib.Core.List.{List, [], _∷_, _++_, append-nil, append-assoc}
-use mathlib.Core.Option.{Option, none, some}
-use Prim.Native.Nat.{ℕ, zero, suc, _+_, _*_}
+use mathlib.Core.Bool.{Bool, true, false}
+use mathlib.Core.List.{List, [], _∷_, _++_, append-nil}
+use Prim.Native.Nat.{ℕ}
 use native.Mathlib.Omega.{arith}
-use lib.Dec.{eqb}
-use borrow.Author.Tests.{eqb-true}
-use Rattle.dogwood_rules.proofs.Below.{and-true}
-use lib.ListN.{length, take, drop}
-use lib.Seq.{take-append-seam}
-use Rattle.dogwood_rules.specs.Basic.{trim, dropBack, orDrop, runLength, cut, cutAfter}
-use Rattle.dogwood_rules.specs.Token.{Token, Kind, Whitespace, Comment, token, tokenise, white, next, lineEnd, letter, spell}
-use Rattle.dogwood_rules.specs.Tree.{blank, comment, isComment, isWhitespace}
-use Rattle.dogwood_rules.specs.Layout.{Settings, layout, joinLines}
-use Rattle.dogwood_rules.specs.Outline.{balanced}
+use Rattle.dogwood_rules.specs.Token.{Token, spell}
+use Rattle.dogwood_rules.specs.Tree.{blank, comment}
+use Rattle.dogwood_rules.specs.Stands.{Stands, stands-end, stands-more, stops, stopsBefore}
+use Rattle.dogwood_rules.specs.Layout.{Settings, joinLines}
 use Rattle.dogwood_rules.specs.File.{Piece, remark, laid, partLines, pieceText, joinPieces, gapAfter, addLine}
-use Rattle.dogwood_rules.specs.Claims.{nonblank, cutRight}
-use Rattle.dogwood_rules.proofs.Runs.{run-more, run-none, run-passes, run-stops}
-use Rattle.dogwood_rules.proofs.Rules.{Rule, r1, r2, r3, r4, r5, r6, r6′, r7, rule-gives, inLine, made}
-use Rattle.dogwood_rules.proofs.Cutting.{cut-front}
-use Rattle.dogwood_rules.proofs.Spaced.{Spaced, Reads, Read, says, withWord, withWords, white-skip, nonblank-blank}
-use Rattle.dogwood_rules.proofs.Trim.{lf-white, back-keeps, empty-spaced}
-use Rattle.dogwood_rules.proofs.Laid.{AllBlank, blanks-end, blanks-more}
-use Rattle.dogwood_rules.proofs.Trees.{AllSound}
-use Rattle.dogwood_rules.proofs.Layouts.{layout-says, layout-spaced, Ended, ended-end, ended-white, blanks-words, nonblank-blanks}
-use Rattle.dogwood_rules.proofs.Chains.{Chain, chain-end, chain-more, tokenise-made}
-use Rattle.dogwood_rules.proofs.Solids.{NoComment, no-comment-end, no-comment, Usable, usable}
+use Rattle.dogwood_rules.specs.Claims.{nonblank}
+use Rattle.dogwood_rules.specs.Made.{cutRight, newLine, twoLines, layoutAs, onLines, partsAs, pieceAs, gapAs, fileAs}
+use Rattle.dogwood_rules.proofs.Calm.{Plain}
+use Rattle.dogwood_rules.proofs.Trim.{lf-white}
+use Rattle.dogwood_rules.proofs.Chains.{Read}
+use Rattle.dogwood_rules.proofs.Standing.{white-stops}
+use Rattle.dogwood_rules.proofs.Respaced.{Gap, gap-blank, line-gap, lines-gap, Respaced, p-end, p-keep, p-gap, p-drop}
+use Rattle.dogwood_rules.proofs.Spelt.{spell-append, AllFirm, firm-full}
+use Rattle.dogwood_rules.proofs.Spread.{Spread, spread-end, spread-blank, spread-word, spread-append}
+use Rattle.dogwood_rules.proofs.Solids.{NoComment, no-comment, kind-plain}
+use Rattle.dogwood_rules.proofs.Remarks.{cut-text, cut-nonblank, cut-alone, cut-stops, cut-twice}
+use Rattle.dogwood_rules.proofs.Layouts.{Part, Layered, layered, stands-gap, nonblank-append, nonblank-blank, nonblank-word}
 
--- Comments ---------------------------------------------------------------------------------------------------------
+-- Lines ------------------------------------------------------------------------------------------------------------------
 
--- behind a comment: nothing, or an LF
-pub data LineEnded : List ℕ → Type 0 where
-  line-end : LineEnded []
-  line-lf : {k : List ℕ} → LineEnded (10 ∷ k)
+-- tokens whose last one ends before an LF
+data Closed : List Token → Type 0 where
+  closed-one : {t : Token} → stops (t .kind) (t .text) 10 ≡ true → Closed (t ∷ [])
+  closed-more : {t u : Token} {us : List Token} → Closed (u ∷ us) → Closed (t ∷ u ∷ us)
 
-line-ended : {k : List ℕ} → LineEnded k → Ended k
-line-ended line-end = ended-end
-line-ended line-lf = ended-white lf-white
+-- tokens that stand, begin and end with no white space, and can be followed by an LF
+record Line (os : List Token) : Type 0 where
+  stands : Stands os
+  spread : Spread true true os
+  closed : Closed os
 
--- lists whose every element passes
-pub data AllPass (f : ℕ → Bool) : List ℕ → Type 0 where
-  pass-end : AllPass f []
-  pass-more : {c : ℕ} {cs : List ℕ} → f c ≡ true → AllPass f cs → AllPass f (c ∷ cs)
+-- white space that begins with an LF
+record Feed (g : Token) : Type 0 where
+  gap : Gap g
+  lf : gap .first ≡ 10
 
-pass-of : (f : ℕ → Bool) (cs k : List ℕ) → runLength f (cs ++ k) ≡ length cs → AllPass f cs
-pass-of f [] k e = pass-end
-pass-of f (c ∷ cs) k e = let h = run-passes f c (cs ++ k) (length cs) e in pass-more (h .0) (pass-of f cs k (h .1))
+new-line : (n : ℕ) → Feed (newLine n)
+unfolding line-gap
+new-line n = record { gap = line-gap n; lf = refl }
 
-pass-or : (f : ℕ → Bool) (x : ℕ) (us : List ℕ) → f x ≡ true → AllPass f us → AllPass f (orDrop white x us)
-pass-or f x [] e a = go (white x) refl
+two-lines : Feed twoLines
+unfolding lines-gap
+two-lines = record { gap = lines-gap; lf = refl }
+
+feed-stops : (t g : Token) (os : List Token) → stops (t .kind) (t .text) 10 ≡ true → Feed g → stopsBefore t (g ∷ os) ≡ true
+unfolding stopsBefore
+feed-stops t g os e f = rw (f .gap .text, f .lf) e
+
+stands-join : {xs : List Token} (g : Token) (ys : List Token) → Stands xs → Closed xs → Feed g → Stands (g ∷ ys) → Stands (xs ++ g ∷ ys)
+unfolding stopsBefore
+stands-join g ys (stands-more {t} e n s) (closed-one c) f q = stands-more e (feed-stops t g ys c f) q
+stands-join g ys (stands-more e n s) (closed-more c) f q = stands-more e n (stands-join g ys s c f q)
+
+closed-join : {xs : List Token} (g : Token) {ys : List Token} → Closed xs → Closed ys → Closed (xs ++ g ∷ ys)
+closed-join g (closed-one c) (closed-one e) = closed-more (closed-more (closed-one e))
+closed-join g (closed-one c) (closed-more q) = closed-more (closed-more (closed-more q))
+closed-join g (closed-more c) q = closed-more (closed-join g c q)
+
+line-join : (xs : List Token) (g : Token) (ys : List Token) → Line xs → Feed g → Line ys → Line (xs ++ g ∷ ys)
+line-join xs g ys a f b =
+    record {
+      stands = stands-join g ys (a .stands) (a .closed) f (stands-gap (f .gap) (b .stands) (b .spread));
+      spread = spread-append (a .spread) (spread-blank (gap-blank (f .gap)) (b .spread));
+      closed = closed-join g (a .closed) (b .closed);
+    }
+
+-- A part --------------------------------------------------------------------------------------------------------------------
+
+-- tokens of a layout, each white space or neither that nor a comment
+data Words : List Token → Type 0 where
+  words-end : Words []
+  words-blank : {t : Token} {ts : List Token} → blank t ≡ true → Words ts → Words (t ∷ ts)
+  words-plain : {t : Token} {ts : List Token} → Plain (t .kind) → Words ts → Words (t ∷ ts)
+
+respaced-words : {ts os : List Token} → NoComment ts → Respaced ts os → Words os
+unfolding blank comment
+respaced-words n p-end = words-end
+respaced-words (no-comment {t} c n) (p-keep b s) = words-plain (kind-plain (t .kind) b c) (respaced-words n s)
+respaced-words n (p-gap h s) = words-blank (gap-blank h) (respaced-words n s)
+respaced-words (no-comment c n) (p-drop b h s) = respaced-words n s
+
+words-closed : {a : Bool} (t : Token) (ts : List Token) → Stands (t ∷ ts) → Words (t ∷ ts) → Spread a true (t ∷ ts) → Closed (t ∷ ts)
+words-closed t [] (stands-more e n s) (words-blank w q) (spread-word b p) = absurd (let z : _≡_ {A = ℕ} 0 1 = cc in omega arith)
+words-closed t [] (stands-more e n s) (words-plain k q) (spread-word b p) = closed-one (white-stops t 10 k e lf-white)
+words-closed t (u ∷ us) (stands-more e n s) (words-blank w q) (spread-blank b p) = closed-more (words-closed u us s q p)
+words-closed t (u ∷ us) (stands-more e n s) (words-blank w q) (spread-word b p) = closed-more (words-closed u us s q p)
+words-closed t (u ∷ us) (stands-more e n s) (words-plain k q) (spread-blank b p) = closed-more (words-closed u us s q p)
+words-closed t (u ∷ us) (stands-more e n s) (words-plain k q) (spread-word b p) = closed-more (words-closed u us s q p)
+
+not-nothing : {A : Type 0} (x : A) (xs : List A) → x ∷ xs ≡ [] → ⊥
+not-nothing x xs e = let z : _≡_ {A = ℕ} 0 1 = cc in omega arith
+
+-- nothing, or a line
+data Lined : List Token → Type 0 where
+  lined-none : Lined []
+  lined-some : {os : List Token} → Line os → Lined os
+
+part-lined : (S : Settings) (d : ℕ) (ts : List Token) → Layered S d ts → Lined (layoutAs S d ts)
+part-lined S d ts l = go (layoutAs S d ts) (respaced-words (l .inside) (l .respaced)) (l .spread) (l .standing)
   where
-    go : (b : Bool) → white x ≡ b → AllPass f (orDrop white x [])
-    go true q = rw q pass-end
-    go false q = rw q (pass-more e pass-end)
-pass-or f x (u ∷ us) e a = pass-more e a
+    go : (os : List Token) → Words os → ((os ≡ [] → ⊥) → Spread true true os) → ((os ≡ [] → ⊥) → Stands os) → Lined os
+    go [] w p s = lined-none
+    go (o ∷ os) w p s =
+        let full = not-nothing o os in
+        lined-some (record { stands = s full; spread = p full; closed = words-closed o os (s full) w (p full) })
 
-pass-back : {f : ℕ → Bool} {cs : List ℕ} → AllPass f cs → AllPass f (dropBack white cs)
-pass-back pass-end = pass-end
-pass-back {f} (pass-more {c} {cs} e a) = pass-or f c (dropBack white cs) e (pass-back a)
+lined-line : (t : Token) (ts : List Token) → Lined (t ∷ ts) → Line (t ∷ ts)
+lined-line t ts (lined-some l) = l
 
-pass-run : {f : ℕ → Bool} {cs k : List ℕ} → AllPass f cs → LineEnded k → f 10 ≡ false → runLength f (cs ++ k) ≡ length cs
-pass-run pass-end line-end q = refl
-pass-run {f} pass-end (line-lf {k}) q = run-none f 10 k q
-pass-run {f} {k} (pass-more {c} {cs} e a) n q = run-more f c (cs ++ k) e ∙ ap suc (pass-run a n q)
+on-lines : (xs ys : List Token) → Lined xs → Lined ys → Lined (onLines xs ys)
+unfolding onLines
+on-lines [] ys a b = b
+on-lines (x ∷ xs) [] a b = a
+on-lines (x ∷ xs) (y ∷ ys) a b = lined-some (line-join (x ∷ xs) (newLine 0) (y ∷ ys) (lined-line x xs a) (new-line 0) (lined-line y ys b))
 
-back-twice : (cs : List ℕ) → dropBack white (dropBack white cs) ≡ dropBack white cs
-back-twice [] = refl
-back-twice (c ∷ cs) = go (dropBack white cs) (back-twice cs)
-  where
-    or : (b : Bool) → white c ≡ b → dropBack white (orDrop white c []) ≡ orDrop white c []
-    or true e = rw e refl
-    or false e = rw e (rw e refl)
-
-    go : (us : List ℕ) → dropBack white us ≡ us → dropBack white (orDrop white c us) ≡ orDrop white c us
-    go [] h = or (white c) refl
-    go (u ∷ us) h = ap (orDrop white c) h
-
-in-line-slash : inLine 47 ≡ true
-unfolding lineEnd
-in-line-slash = refl
-
-in-line-lf : inLine 10 ≡ false
-unfolding lineEnd
-in-line-lf = refl
-
-not-comment : {k j : Kind} → k ≡ j → isComment k ≡ true → isComment j ≡ false → ⊥
-not-comment {k} {j} e a q = let z : isComment k ≡ isComment j = ap isComment e in let y : _≡_ {A = ℕ} 0 1 = cc in omega arith
-
--- what a comment that is read shows
-record IsRemark (c : ℕ) (more : List ℕ) (k : Kind) : Type 0 where
-  rest : List ℕ
-  isComment-kind : k ≡ Comment
-  noWhite : white c ≡ false
-  noQuote : eqb c 34 ≡ false
-  slash : eqb c 47 ≡ true
-  second : more ≡ 47 ∷ rest
-  passes : AllPass inLine rest
-
-pub slash-second : (c : ℕ) (more k : List ℕ) → eqb c 47 && next (eqb 47) (more ++ k) ≡ true → runLength inLine (more ++ k) ≡ length more → (rest : List ℕ) × (more ≡ 47 ∷ rest) × AllPass inLine rest
-slash-second c [] [] d q = absurd (let z = and-true (eqb c 47) false d .1 in let y : _≡_ {A = ℕ} 0 1 = cc in omega arith)
-slash-second c [] (x ∷ k) d q =
-    let h = and-true (eqb c 47) (eqb 47 x) d .1 in
-    let r : runLength inLine (x ∷ k) ≡ suc (runLength inLine k) = run-more inLine x k (ap inLine (sym (eqb-true 47 x h)) ∙ in-line-slash) in
-    absurd (omega arith)
-slash-second c (x ∷ more) k d q =
-    let h = and-true (eqb c 47) (eqb 47 x) d .1 in
-    let r = run-passes inLine x (more ++ k) (length more) q in
-    (more, ap (λ (y : ℕ). y ∷ more) (sym (eqb-true 47 x h)), pass-of inLine more k (r .1))
-
-is-remark : (c : ℕ) (more k : List ℕ) (d : Kind) → isComment d ≡ true → Rule c (more ++ k) d (length more) → IsRemark c more d
-unfolding isComment
-is-remark c more k d w (r1 a e q) = absurd (not-comment e w refl)
-is-remark c more k d w (r2 a b e q) = absurd (not-comment e w refl)
-is-remark c more k d w (r3 a b s e q) =
-    let h = slash-second c more k s q in
-    record { rest = h .0; isComment-kind = e; noWhite = a; noQuote = b; slash = and-true (eqb c 47) (next (eqb 47) (more ++ k)) s .0; second = h .1; passes = h .2 }
-is-remark c more k d w (r4 a b s f e q) = absurd (not-comment e w refl)
-is-remark c more k d w (r5 a b s f g e q) = absurd (not-comment e w refl)
-is-remark c more k d w (r6 a b s f g h e q) = absurd (not-comment e w refl)
-is-remark c more k d w (r6′ a b s f g h i e q) = absurd (not-comment e w refl)
-is-remark c more k d w (r7 a b s f g h i e q) = absurd (not-comment e w refl)
-
-slash-solid : white 47 ≡ false
-unfolding white
-slash-solid = refl
-
-module _ (t : Token) (c : ℕ) (more k′ : List ℕ) (h : IsRemark c more (t .kind)) (e : t .text ≡ c ∷ more) (n : LineEnded k′) where
-  left : List ℕ
-  left = 47 ∷ dropBack white (h .rest)
-
-  shortened : Token
-  shortened = record { kind = Comment; text = c ∷ left }
-
-  body : dropBack white (t .text) ≡ c ∷ left
-  unfolding left
-  body =
-      ap (dropBack white) (e ∙ ap (λ (l : List ℕ). c ∷ l) (h .second))
-      ∙ back-keeps white c (47 ∷ h .rest) (h .noWhite) ∙ ap (λ (l : List ℕ). c ∷ l) (back-keeps white 47 (h .rest) slash-solid)
-
-  run : runLength inLine (left ++ k′) ≡ length left
-  unfolding left
-  run = run-more inLine 47 (dropBack white (h .rest) ++ k′) in-line-slash ∙ ap suc (pass-run (pass-back (h .passes)) n in-line-lf)
-
-  slashes : eqb c 47 && next (eqb 47) (left ++ k′) ≡ true
-  unfolding left
-  slashes = rw (h .slash) refl
-
-  again : token (c ∷ (left ++ k′)) ≡ some (shortened, length left)
-  unfolding shortened
-  again =
-      rule-gives c (left ++ k′) Comment (length left) (r3 (h .noWhite) (h .noQuote) slashes refl run)
-      ∙ ap (λ (l : List ℕ). some (record { kind = Comment; text = c ∷ l }, length left)) (take-append-seam left k′)
-
-  read : says (c ∷ (left ++ k′)) ≡ withWord (cutRight shortened) (says k′)
-  unfolding says tokenise nonblank blank isWhitespace shortened
-  read = ap (λ (x : List Token × List ℕ). (nonblank (x .0), x .1)) (cut-front token c left k′ shortened again)
-
-  same-cut : comment t ≡ true → cutRight shortened ≡ cutRight t
-  unfolding cutRight shortened comment isComment
-  same-cut w =
-      rw w
-      (ap (λ (l : List ℕ). record { kind = Comment; text = dropBack white l }) (sym body)
-      ∙ ap (λ (l : List ℕ). record { kind = Comment; text = l }) (back-twice (t .text))
-      ∙ ap (λ (d : Kind). record { kind = d; text = dropBack white (t .text) }) (sym (h .isComment-kind)))
-
-  shortened-says : comment t ≡ true → says (dropBack white (t .text) ++ k′) ≡ withWord (cutRight t) (says k′)
-  shortened-says w = ap (λ (l : List ℕ). says (l ++ k′)) body ∙ read ∙ ap (λ (u : Token). withWord u (says k′)) (same-cut w)
-
-pub remark-says : (t : Token) (k k′ : List ℕ) → comment t ≡ true → Read t k → LineEnded k′ → says (dropBack white (t .text) ++ k′) ≡ withWord (cutRight t) (says k′)
-unfolding comment
-remark-says t k k′ w r n = shortened-says t (r .first) (r .more) k′ (is-remark (r .first) (r .more) k (t .kind) w (r .rule)) (r .text) n w
-
--- Parts and pieces ---------------------------------------------------------------------------------------------------
-
-abbrev pub wordsAll : List (List Token) → List Token
-wordsAll [] = []
-wordsAll (ts ∷ ps) = nonblank ts ++ wordsAll ps
-
--- a part that can be laid out: read in some text, without comments, balanced
-pub record Part (ts : List Token) : Type 0 where
-  pub behind : List ℕ
-  pub usable : Usable behind ts
-  pub balance : balanced 0 ts ≡ true
+-- A statement -----------------------------------------------------------------------------------------------------------------
 
 pub data AllParts : List (List Token) → Type 0 where
   parts-end : AllParts []
   parts-more : {ts : List Token} {ps : List (List Token)} → Part ts → AllParts ps → AllParts (ts ∷ ps)
 
-part-says : (S : Settings) (ts : List Token) (k′ : List ℕ) → Part ts → Ended k′ → says (layout S 0 ts ++ k′) ≡ withWords (nonblank ts) (says k′)
-part-says S ts k′ p n = layout-says S 0 ts (p .behind) k′ (p .usable .sound) (p .balance) (p .usable .reads) n
+abbrev pub wordsAll : List (List Token) → List Token
+wordsAll [] = []
+wordsAll (ts ∷ ps) = nonblank ts ++ wordsAll ps
 
-with-with : (xs ys : List Token) (r : List Token × List ℕ) → withWords xs (withWords ys r) ≡ withWords (xs ++ ys) r
-with-with xs ys r = ap (λ (l : List Token). (l, r .1)) (sym (append-assoc xs ys (r .0)))
+on-nonblank : (xs ys : List Token) → nonblank (onLines xs ys) ≡ nonblank xs ++ nonblank ys
+unfolding onLines nonblank
+on-nonblank [] ys = refl
+on-nonblank (x ∷ xs) [] = sym (append-nil (nonblank (x ∷ xs)))
+on-nonblank (x ∷ xs) (y ∷ ys) =
+    nonblank-append (x ∷ xs) (newLine 0 ∷ y ∷ ys) ∙ ap (λ (l : List Token). nonblank (x ∷ xs) ++ l) (nonblank-blank (newLine 0) (y ∷ ys) (gap-blank (line-gap 0)))
 
-empty-words : (ws : List Token) → says [] ≡ withWords ws (says []) → ws ≡ []
-unfolding says tokenise cut cutAfter nonblank
-empty-words ws e = sym (append-nil ws) ∙ ap (λ (x : List Token × List ℕ). x .0) (sym e)
+-- a part's tokens, and the lines of its text: both empty, or both not, and the ones spell the others
+data View : List Token → List (List ℕ) → Type 0 where
+  view-none : View [] []
+  view-some : (t : Token) (ts : List Token) (l : List ℕ) (ls : List (List ℕ)) → spell (t ∷ ts) ≡ joinLines (l ∷ ls) → View (t ∷ ts) (l ∷ ls)
 
-line-says : (line : List ℕ) (ls : List (List ℕ)) (ws vs : List Token) (k′ : List ℕ)
-    → ((j : List ℕ) → Ended j → says (line ++ j) ≡ withWords ws (says j)) → Ended k′ → says (joinLines ls ++ k′) ≡ withWords vs (says k′)
-    → says (joinLines (addLine line ls) ++ k′) ≡ withWords (ws ++ vs) (says k′)
-unfolding joinLines addLine
-line-says [] ls ws vs k′ f n h = h ∙ f′ ∙ with-with ws vs (says k′)
-  where
-    f′ : withWords vs (says k′) ≡ withWords ws (withWords vs (says k′))
-    f′ = ap (λ (l : List Token). withWords l (withWords vs (says k′))) (sym (empty-words ws (f [] ended-end)))
-line-says (c ∷ cs) [] ws vs k′ f n h = f k′ n ∙ ap (withWords ws) h ∙ with-with ws vs (says k′)
-line-says (c ∷ cs) (l ∷ ls) ws vs k′ f n h =
-    ap says (append-assoc (c ∷ cs) (10 ∷ joinLines (l ∷ ls)) k′)
-    ∙ f (10 ∷ (joinLines (l ∷ ls) ++ k′)) (ended-white lf-white)
-    ∙ ap (withWords ws) (white-skip 10 (joinLines (l ∷ ls) ++ k′) lf-white ∙ h)
-    ∙ with-with ws vs (says k′)
+add-line : (line : List ℕ) (ls : List (List ℕ)) → (line ≡ [] → ⊥) → addLine line ls ≡ line ∷ ls
+unfolding addLine
+add-line [] ls f = absurd (f refl)
+add-line (c ∷ cs) ls f = refl
 
-pub parts-say : (S : Settings) {ps : List (List Token)} (k′ : List ℕ) → AllParts ps → Ended k′ → says (joinLines (partLines S ps) ++ k′) ≡ withWords (wordsAll ps) (says k′)
-unfolding partLines joinLines
-parts-say S k′ parts-end n = refl
-parts-say S k′ (parts-more {ts} {ps} p a) n =
-    line-says (layout S 0 ts) (partLines S ps) (nonblank ts) (wordsAll ps) k′ (λ j m. part-says S ts j p m) n (parts-say S k′ a n)
+view-add : (os us : List Token) (ls : List (List ℕ)) → AllFirm os → View us ls → View (onLines os us) (addLine (spell os) ls)
+unfolding onLines spell addLine joinLines
+view-add [] us ls a v = v
+view-add (o ∷ os) us ls a view-none = rw (add-line (spell (o ∷ os)) [] (λ e. firm-full o os a e)) (view-some o os (spell (o ∷ os)) [] refl)
+view-add (o ∷ os) us ls a (view-some t ts l ms e) =
+    rw (add-line (spell (o ∷ os)) (l ∷ ms) (λ q. firm-full o os a q))
+    (view-some o (os ++ newLine 0 ∷ t ∷ ts) (spell (o ∷ os)) (l ∷ ms) (spell-append (o ∷ os) (newLine 0 ∷ t ∷ ts) ∙ ap (λ (x : List ℕ). spell (o ∷ os) ++ 10 ∷ x) e))
 
--- Pieces ---------------------------------------------------------------------------------------------------------------
+view-spells : {ts : List Token} {ls : List (List ℕ)} → View ts ls → spell ts ≡ joinLines ls
+unfolding spell joinLines
+view-spells view-none = refl
+view-spells (view-some t ts l ls e) = e
+
+module _ (S : Settings) where
+  parts-lined : {ps : List (List Token)} → AllParts ps → Lined (partsAs S ps)
+  unfolding partsAs
+  parts-lined parts-end = lined-none
+  parts-lined (parts-more {ts} {ps} p a) = on-lines (layoutAs S 0 ts) (partsAs S ps) (part-lined S 0 ts (layered S 0 ts p)) (parts-lined a)
+
+  parts-nonblank : {ps : List (List Token)} → AllParts ps → nonblank (partsAs S ps) ≡ wordsAll ps
+  unfolding partsAs nonblank
+  parts-nonblank parts-end = refl
+  parts-nonblank (parts-more {ts} {ps} p a) =
+      on-nonblank (layoutAs S 0 ts) (partsAs S ps) ∙ ap (λ (l : List Token). l ++ nonblank (partsAs S ps)) (layered S 0 ts p .same) ∙ ap (λ (l : List Token). nonblank ts ++ l) (parts-nonblank a)
+
+  parts-view : {ps : List (List Token)} → AllParts ps → View (partsAs S ps) (partLines S ps)
+  unfolding partsAs partLines
+  parts-view parts-end = view-none
+  parts-view (parts-more {ts} {ps} p a) =
+      let l = layered S 0 ts p in
+      subst (λ (x : List ℕ). View (onLines (layoutAs S 0 ts) (partsAs S ps)) (addLine x (partLines S ps))) (l .spelt)
+      (view-add (layoutAs S 0 ts) (partsAs S ps) (partLines S ps) (l .firm) (parts-view a))
+
+-- Pieces ------------------------------------------------------------------------------------------------------------------------
 
 abbrev pub pieceWords : Piece → List Token
 pieceWords (remark t) = cutRight t ∷ []
@@ -229,44 +189,73 @@ abbrev pub piecesWords : List Piece → List Token
 piecesWords [] = []
 piecesWords (p ∷ ps) = pieceWords p ++ piecesWords ps
 
+-- a comment that is read; a statement whose parts can be laid out, and that has a token
 pub data Sane : Piece → Type 0 where
   sane-remark : {t : Token} (k : List ℕ) → comment t ≡ true → Read t k → Sane (remark t)
-  sane-laid : {ps : List (List Token)} → AllParts ps → Sane (laid ps)
+  sane-laid : {ps : List (List Token)} → AllParts ps → (wordsAll ps ≡ [] → ⊥) → Sane (laid ps)
 
 pub data AllSane : List Piece → Type 0 where
   sane-end : AllSane []
   sane-more : {p : Piece} {ps : List Piece} → Sane p → AllSane ps → AllSane (p ∷ ps)
 
-piece-says : (S : Settings) {p : Piece} (k′ : List ℕ) → Sane p → LineEnded k′ → says (pieceText S p ++ k′) ≡ withWords (pieceWords p) (says k′)
-unfolding pieceText
-piece-says S k′ (sane-remark {t} k w r) n = remark-says t k k′ w r n
-piece-says S k′ (sane-laid a) n = parts-say S k′ a (line-ended n)
+gap-feed : (p : Piece) → Feed (gapAs p)
+unfolding gapAs
+gap-feed (remark t) = new-line 0
+gap-feed (laid ps) = two-lines
 
--- what stands behind a piece
-behind : Settings → Piece → List Piece → List ℕ
-behind S p [] = []
-behind S p (q ∷ qs) = gapAfter p ++ joinPieces S (q ∷ qs)
+gap-text : (p : Piece) → gapAs p .text ≡ gapAfter p
+unfolding gapAs gapAfter
+gap-text (remark t) = refl
+gap-text (laid ps) = refl
 
-join-behind : (S : Settings) (p : Piece) (ps : List Piece) → joinPieces S (p ∷ ps) ≡ pieceText S p ++ behind S p ps
-unfolding joinPieces behind
-join-behind S p [] = sym (append-nil (pieceText S p))
-join-behind S p (q ∷ qs) = refl
+lined-full : (os : List Token) → (nonblank os ≡ [] → ⊥) → Lined os → Line os
+unfolding nonblank
+lined-full [] f l = absurd (f refl)
+lined-full (o ∷ os) f (lined-some l) = l
 
-behind-ended : (S : Settings) (p : Piece) (ps : List Piece) → LineEnded (behind S p ps)
-unfolding behind gapAfter
-behind-ended S p [] = line-end
-behind-ended S (remark t) (q ∷ qs) = line-lf
-behind-ended S (laid ts) (q ∷ qs) = line-lf
+module _ (S : Settings) where
+  piece-line : {p : Piece} → Sane p → Line (pieceAs S p)
+  unfolding pieceAs stopsBefore
+  piece-line (sane-remark {t} k w r) =
+      record {
+        stands = stands-more (cut-alone t k w r) refl stands-end;
+        spread = spread-word (cut-nonblank t k w r) spread-end;
+        closed = closed-one (cut-stops t k w r);
+      }
+  piece-line (sane-laid {ps} a f) = lined-full (partsAs S ps) (λ e. f (sym (parts-nonblank S a) ∙ e)) (parts-lined S a)
 
-behind-says : (S : Settings) (p : Piece) (ps : List Piece) → says (behind S p ps) ≡ says (joinPieces S ps)
-unfolding behind gapAfter joinPieces
-behind-says S p [] = refl
-behind-says S (remark t) (q ∷ qs) = white-skip 10 (joinPieces S (q ∷ qs)) lf-white
-behind-says S (laid ts) (q ∷ qs) = white-skip 10 (10 ∷ joinPieces S (q ∷ qs)) lf-white ∙ white-skip 10 (joinPieces S (q ∷ qs)) lf-white
+  piece-spelt : {p : Piece} → Sane p → spell (pieceAs S p) ≡ pieceText S p
+  unfolding pieceAs pieceText spell
+  piece-spelt (sane-remark {t} k w r) = append-nil (cutRight t .text) ∙ cut-text t k w r
+  piece-spelt (sane-laid a f) = view-spells (parts-view S a)
 
--- THE LAYOUT OF A FILE says the words of its pieces, and leaves nothing
-pub file-says : (S : Settings) {ps : List Piece} → AllSane ps → says (joinPieces S ps) ≡ (piecesWords ps, [])
-unfolding joinPieces says tokenise cut cutAfter nonblank
-file-says S sane-end = refl
-file-says S (sane-more {p} {ps} s a) =
-    ap says (join-behind S p ps) ∙ piece-says S (behind S p ps) s (behind-ended S p ps) ∙ ap (withWords (pieceWords p)) (behind-says S p ps ∙ file-says S a)
+  piece-nonblank : {p : Piece} → Sane p → nonblank (pieceAs S p) ≡ pieceWords p
+  unfolding pieceAs nonblank
+  piece-nonblank (sane-remark {t} k w r) = nonblank-word (cutRight t) [] (cut-nonblank t k w r) ∙ ap (λ (u : Token). u ∷ []) (cut-twice t k w r)
+  piece-nonblank (sane-laid a f) = parts-nonblank S a
+
+  file-line : (p : Piece) {ps : List Piece} → Sane p → AllSane ps → Line (fileAs S (p ∷ ps))
+  unfolding fileAs
+  file-line p s sane-end = piece-line s
+  file-line p s (sane-more {p = q} {ps = qs} t a) = line-join (pieceAs S p) (gapAs p) (fileAs S (q ∷ qs)) (piece-line s) (gap-feed p) (file-line q t a)
+
+  pub file-stands : {ps : List Piece} → AllSane ps → Stands (fileAs S ps)
+  unfolding fileAs
+  file-stands sane-end = stands-end
+  file-stands (sane-more {p} s a) = file-line p s a .stands
+
+  pub file-spelt : {ps : List Piece} → AllSane ps → spell (fileAs S ps) ≡ joinPieces S ps
+  unfolding fileAs joinPieces spell
+  file-spelt sane-end = refl
+  file-spelt (sane-more s sane-end) = piece-spelt s
+  file-spelt (sane-more {p} s (sane-more {p = q} {ps = qs} t a)) =
+      spell-append (pieceAs S p) (gapAs p ∷ fileAs S (q ∷ qs)) ∙ ap (λ (l : List ℕ). l ++ (gapAs p .text ++ spell (fileAs S (q ∷ qs)))) (piece-spelt s)
+      ∙ ap (λ (l : List ℕ). pieceText S p ++ (l ++ spell (fileAs S (q ∷ qs)))) (gap-text p) ∙ ap (λ (l : List ℕ). pieceText S p ++ (gapAfter p ++ l)) (file-spelt (sane-more t a))
+
+  pub file-nonblank : {ps : List Piece} → AllSane ps → nonblank (fileAs S ps) ≡ piecesWords ps
+  unfolding fileAs nonblank
+  file-nonblank sane-end = refl
+  file-nonblank (sane-more {p} s sane-end) = piece-nonblank s ∙ sym (append-nil (pieceWords p))
+  file-nonblank (sane-more {p} s (sane-more {p = q} {ps = qs} t a)) =
+      nonblank-append (pieceAs S p) (gapAs p ∷ fileAs S (q ∷ qs)) ∙ ap (λ (l : List Token). l ++ nonblank (gapAs p ∷ fileAs S (q ∷ qs))) (piece-nonblank s)
+      ∙ ap (λ (l : List Token). pieceWords p ++ l) (nonblank-blank (gapAs p) (fileAs S (q ∷ qs)) (gap-blank (gap-feed p .gap)) ∙ file-nonblank (sane-more t a))

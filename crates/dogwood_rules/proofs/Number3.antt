@@ -12,20 +12,21 @@ use Rattle.dogwood_rules.specs.Utf8.{decode, encode, marked, markOf, tex
 use Rattle.dogwood_rules.specs.Token.{Token, Placed, tokenise, tokens, placed, spell, wordsOf}
 use Rattle.dogwood_rules.specs.Source.{Source, tooLong, notUtf8, unended, cutInto, sourceOf}
 use Rattle.dogwood_rules.specs.Layout.{Settings}
-use Rattle.dogwood_rules.specs.Outline.{statements, fits, Fits}
+use Rattle.dogwood_rules.specs.Outline.{statements, fits}
 use Rattle.dogwood_rules.specs.File.{Piece, pieces, joinPieces}
 use Rattle.dogwood_rules.specs.Searches.{firstComment, deepOpener}
-use Rattle.dogwood_rules.specs.Answer.{Answer, answer, answered, refused, checked, nested, filled, commented, fitted}
-use Rattle.dogwood_rules.specs.Claims.{nonblank, codesOf, tokensIn, piecesOf, layoutOf, behindMark, Number3, Preserved, SameTokens}
+use Rattle.dogwood_rules.specs.Answer.{answer, answered, refused, checked, nested, filled, commented, fitted}
+use Rattle.dogwood_rules.specs.Made.{fileAs}
+use Rattle.dogwood_rules.specs.Claims.{nonblank, codesOf, tokensIn, piecesOf, layoutOf, madeOf, behindMark, Number3, Number3′, SameTokens}
 use Rattle.dogwood_rules.proofs.Wholes.{Whole, source-whole}
 use Rattle.dogwood_rules.proofs.Fitting.{fits-says}
 use Rattle.dogwood_rules.proofs.RoundTrip.{AllScalar, decode-encode}
 use Rattle.dogwood_rules.proofs.Decoding.{decode-sound}
 use Rattle.dogwood_rules.proofs.Scalars.{Plain-text, plain-pieces, file-scalars, scalars-front}
-use Rattle.dogwood_rules.proofs.Spaced.{says}
+use Rattle.dogwood_rules.proofs.Standing.{tokenise-only}
 use Rattle.dogwood_rules.proofs.Chains.{Chain, tokenise-made}
-use Rattle.dogwood_rules.proofs.Files.{file-says, piecesWords}
-use Rattle.dogwood_rules.proofs.Pieces.{Said, pieces-say}
+use Rattle.dogwood_rules.proofs.Files.{file-stands, file-spelt, file-nonblank}
+use Rattle.dogwood_rules.proofs.Pieces.{pieces-say}
 
 -- What an answer of 0 shows -----------------------------------------------------------------------------------------------
 
@@ -98,7 +99,7 @@ tokens-placed at [] = refl
 tokens-placed at (t ∷ ts) = ap (λ (l : List Token). t ∷ l) (tokens-placed _ ts)
 
 pub number3 : Number3
-unfolding layoutOf piecesOf tokensIn codesOf says behindMark
+unfolding layoutOf piecesOf tokensIn codesOf behindMark madeOf
 number3 S source outline tableRoom outputRoom e =
     let z = answer-zero S source outline tableRoom outputRoom e in
     let cs = decode (textOf source) .0 in
@@ -108,8 +109,8 @@ number3 S source outline tableRoom outputRoom e =
     let l : LaidOut S source outline tableRoom outputRoom ps (answer S source outline tableRoom outputRoom .output) = subst (λ (qs : List Placed). LaidOut S source outline tableRoom outputRoom qs (answer S source outline tableRoom outputRoom .output)) (z .whole .cut) (z .laid) in
     let f = fits-says (length (textOf source)) ps outline (l .fit) in
     let c : Chain (tokenise cs .1) (tokens ps) = subst (λ (us : List Token). Chain (tokenise cs .1) us) (sym (tokens-placed 0 ts)) (tokenise-made cs .chain) in
-    let p = pieces-say ss ps c (l .free) (f .outside) (f .covered) (f .balance) in
-    let h = file-says S (p .sane) in
+    let p = pieces-say ss ps c (l .free) (f .outside) (f .covered) (f .balance) (f .used) in
+    let h : tokenise (joinPieces S (pieces ss ps)) ≡ (fileAs S (pieces ss ps), []) = tokenise-only (joinPieces S (pieces ss ps)) (fileAs S (pieces ss ps)) (file-spelt S (p .sane)) (file-stands S (p .sane)) in
     let all : AllScalar (spell ts ++ tokenise cs .1) = subst AllScalar (sym (tokenise-made cs .whole)) (decode-sound (textOf source) .scalars) in
     let plain : Plain-text (tokens ps) = subst Plain-text (sym (tokens-placed 0 ts)) (scalars-front (spell ts) (tokenise cs .1) all) in
     record {
@@ -117,8 +118,8 @@ number3 S source outline tableRoom outputRoom e =
       readable =
           ap decode (ap (drop (length (markOf source))) (l .out) ∙ drop-append-seam (markOf source) (encode (joinPieces S (pieces ss ps))))
           ∙ decode-encode (file-scalars S (p .sane) (plain-pieces ss ps plain));
-      whole = ap (λ (x : List Token × List ℕ). x .1) h;
-      same = ap (λ (x : List Token × List ℕ). x .0) h ∙ p .same ∙ ap nonblank (tokens-placed 0 ts);
+      made = h;
+      same = file-nonblank S (p .sane) ∙ p .same ∙ ap nonblank (tokens-placed 0 ts);
     }
 
 -- Two sources ----------------------------------------------------------------------------------------------------------
@@ -127,16 +128,19 @@ same-mark : (a b : List ℕ) → marked a ≡ marked b → markOf a ≡ markOf b
 unfolding markOf
 same-mark a b e = rw e refl
 
+pub number3′ : Number3′
+number3′ S source outline tableRoom outputRoom e =
+    let p = number3 S source outline tableRoom outputRoom e in
+    let text = ap (λ (r : List ℕ × List ℕ). r .0) (p .readable) in
+    let cut = ap tokenise text ∙ p .made in
+    record { valid = ap (λ (r : List ℕ × List ℕ). r .1) (p .readable); ended = ap (λ (r : List Token × List ℕ). r .1) cut; same = ap (λ (r : List Token × List ℕ). nonblank (r .0)) cut ∙ p .same }
+
 -- what stands behind the same marks of the same bytes is the same text
 pub same-tokens : SameTokens
 unfolding behindMark
 same-tokens S₁ S₂ source₁ source₂ outline₁ outline₂ table₁ table₂ room₁ room₂ m e₁ e₂ o =
-    let p₁ = number3 S₁ source₁ outline₁ table₁ room₁ e₁ in
-    let p₂ = number3 S₂ source₂ outline₂ table₂ room₂ e₂ in
-    let text : layoutOf S₁ source₁ outline₁ ≡ layoutOf S₂ source₂ outline₂ =
-    ap (λ (r : List ℕ × List ℕ). r .0)
-    (sym (p₁ .readable)
-    ∙ ap (λ (l : List ℕ). decode (drop (length l) (answer S₁ source₁ outline₁ table₁ room₁ .output))) (same-mark source₁ source₂ m)
-    ∙ ap (λ (l : List ℕ). decode (drop (length (markOf source₂)) l)) o
-    ∙ p₂ .readable) in
-    sym (p₁ .same) ∙ ap (λ (l : List ℕ). nonblank (tokenise l .0)) text ∙ p₂ .same
+    let p₁ = number3′ S₁ source₁ outline₁ table₁ room₁ e₁ in
+    let p₂ = number3′ S₂ source₂ outline₂ table₂ room₂ e₂ in
+    let text : behindMark source₁ (answer S₁ source₁ outline₁ table₁ room₁ .output) ≡ behindMark source₂ (answer S₂ source₂ outline₂ table₂ room₂ .output) =
+    ap (λ (l : List ℕ). drop (length l) (answer S₁ source₁ outline₁ table₁ room₁ .output)) (same-mark source₁ source₂ m) ∙ ap (drop (length (markOf source₂))) o in
+    sym (p₁ .same) ∙ ap (λ (l : List ℕ). nonblank (tokenise (decode l .0) .0)) text ∙ p₂ .same

@@ -1,25 +1,27 @@
 -- The pieces of a text under an outline say what the text says.
 use mathlib.Core.Path.{_≡_, refl, sym, _∙_, ap, subst}
-use mathlib.Core.Bool.{Bool, true, false, not, _&&_, _||_}
-use mathlib.Core.List.{List, [], _∷_, _++_, append-nil, append-assoc}
+use mathlib.Core.Bool.{Bool, true, false, not, _&&_}
+use mathlib.Core.List.{List, [], _∷_, _++_, append-assoc}
 use mathlib.Core.Option.{Option, none, some}
-use Prim.Native.Nat.{ℕ, zero, suc, _+_}
+use Prim.Native.Nat.{ℕ, _+_}
 use native.Mathlib.Omega.{arith}
 use lib.Dec.{ltb}
-use Rattle.dogwood_rules.specs.Basic.{every, if_then_else_}
+use Rattle.dogwood_rules.specs.Basic.{every, some?}
 use Rattle.dogwood_rules.specs.Token.{Token, Kind, Whitespace, Comment, String, Identifier, Number, Symbol, Other, Placed, spell, tokens}
 use Rattle.dogwood_rules.specs.Tree.{blank, comment, isComment, isWhitespace}
-use Rattle.dogwood_rules.specs.Outline.{Span, Statement, upTo, from, within, beyond, partsOf, plain, gapsOk, balanced, eachOk, coveredOk, balanceOk, spansOf}
-use Rattle.dogwood_rules.specs.File.{Piece, remark, laid, remarks, pieces}
+use Rattle.dogwood_rules.specs.Outline.{Span, Statement, upTo, from, within, beyond, partsOf, plain, gapsOk, balanced, eachOk, coveredOk, balanceOk, plainOk, spansOf}
+use Rattle.dogwood_rules.specs.File.{Piece, laid, remarks, pieces}
 use Rattle.dogwood_rules.specs.Searches.{commentIn, firstComment, orElse}
-use Rattle.dogwood_rules.specs.Claims.{nonblank, cutRight}
+use Rattle.dogwood_rules.specs.Claims.{nonblank}
+use Rattle.dogwood_rules.specs.Made.{cutRight}
 use Rattle.dogwood_rules.proofs.Below.{and-true}
-use Rattle.dogwood_rules.proofs.Spaced.{nonblank-blank, Read}
 use Rattle.dogwood_rules.proofs.Laid.{AllBlank, blanks-end, blanks-more}
-use Rattle.dogwood_rules.proofs.Layouts.{blanks-words, spell-append}
-use Rattle.dogwood_rules.proofs.Chains.{Chain, chain-end, chain-more}
-use Rattle.dogwood_rules.proofs.Solids.{NoComment, no-comment-end, no-comment, usable}
-use Rattle.dogwood_rules.proofs.Files.{wordsAll, Part, AllParts, parts-end, parts-more, pieceWords, piecesWords, Sane, sane-remark, sane-laid, AllSane, sane-end, sane-more}
+use Rattle.dogwood_rules.proofs.Layouts.{nonblank-blank, nonblank-append, blanks-nonblank, free-front, free-back}
+use Rattle.dogwood_rules.proofs.Spelt.{spell-append}
+use Rattle.dogwood_rules.proofs.Chains.{Read, Chain, chain-end, chain-more}
+use Rattle.dogwood_rules.proofs.Standing.{chain-stands}
+use Rattle.dogwood_rules.proofs.Solids.{NoComment, no-comment-end, no-comment, all-sound}
+use Rattle.dogwood_rules.proofs.Files.{wordsAll, AllParts, parts-end, parts-more, pieceWords, piecesWords, sane-remark, sane-laid, AllSane, sane-end, sane-more}
 
 -- Lists of tokens --------------------------------------------------------------------------------------------------
 
@@ -37,15 +39,6 @@ pub span-tokens : (s : Span) (ps : List Placed) → tokens (upTo (s .start) ps) 
 unfolding within beyond
 span-tokens s ps = ap (λ (l : List Token). tokens (upTo (s .start) ps) ++ l) (split-tokens (s .stop) (from (s .start) ps)) ∙ split-tokens (s .start) ps
 
-nonblank-app : (ts us : List Token) → nonblank (ts ++ us) ≡ nonblank ts ++ nonblank us
-unfolding nonblank
-nonblank-app [] us = refl
-nonblank-app (t ∷ ts) us = go (nonblank-app ts us) (blank t) refl
-  where
-    go : nonblank (ts ++ us) ≡ nonblank ts ++ nonblank us → (b : Bool) → blank t ≡ b → nonblank (t ∷ (ts ++ us)) ≡ nonblank (t ∷ ts) ++ nonblank us
-    go h true e = rw (e, nonblank) h
-    go h false e = rw (e, nonblank) (ap (λ (l : List Token). cutRight t ∷ l) h)
-
 chain-front : {k : List ℕ} (ts us : List Token) → Chain k (ts ++ us) → Chain (spell us ++ k) ts
 chain-front [] us c = chain-end
 chain-front {k} (t ∷ ts) us (chain-more r c) =
@@ -54,14 +47,6 @@ chain-front {k} (t ∷ ts) us (chain-more r c) =
 chain-back : {k : List ℕ} (ts us : List Token) → Chain k (ts ++ us) → Chain k us
 chain-back [] us c = c
 chain-back (t ∷ ts) us (chain-more r c) = chain-back ts us c
-
-free-front : (ts us : List Token) → NoComment (ts ++ us) → NoComment ts
-free-front [] us n = no-comment-end
-free-front (t ∷ ts) us (no-comment e n) = no-comment e (free-front ts us n)
-
-free-back : (ts us : List Token) → NoComment (ts ++ us) → NoComment us
-free-back [] us n = n
-free-back (t ∷ ts) us (no-comment e n) = free-back ts us n
 
 -- Gaps ---------------------------------------------------------------------------------------------------------------
 
@@ -118,7 +103,7 @@ record Split (ss : List Span) (ps : List Placed) : Type 0 where
 
 parts-split : {k : List ℕ} (ss : List Span) (ps : List Placed) → Chain k (tokens ps) → NoComment (tokens ps) → gapsOk ss ps ≡ true → every (balanced 0) (partsOf ss ps) ≡ true → Split ss ps
 unfolding partsOf gapsOk
-parts-split [] ps c n g b = record { parts = parts-end; same = sym (blanks-words (gap-blank (tokens ps) g n)) }
+parts-split [] ps c n g b = record { parts = parts-end; same = sym (blanks-nonblank (gap-blank (tokens ps) g n)) }
 parts-split {k} (s ∷ ss) ps c n g b =
     let w = sym (span-tokens s ps) in
     let u = tokens (upTo (s .start) ps) in
@@ -132,10 +117,10 @@ parts-split {k} (s ∷ ss) ps c n g b =
     let n₂ : NoComment (i ++ o) = free-back u (i ++ o) n₁ in
     let h = parts-split ss (beyond s ps) (chain-back i o c₂) (free-back i o n₂) (g₁ .1) (b₁ .1) in
     record {
-      parts = parts-more (record { behind = spell o ++ k; usable = usable (chain-front i o c₂) (free-front i o n₂); balance = b₁ .0 }) (h .parts);
+      parts = parts-more (record { stands = chain-stands (chain-front i o c₂); free = free-front i o n₂; sound = all-sound (chain-front i o c₂) (free-front i o n₂); balance = b₁ .0 }) (h .parts);
       same =
-          ap (λ (l : List Token). nonblank i ++ l) (h .same) ∙ sym (nonblank-app i o)
-          ∙ sym (nonblank-app u (i ++ o) ∙ ap (λ (l : List Token). l ++ nonblank (i ++ o)) (blanks-words (gap-blank u (g₁ .0) (free-front u (i ++ o) n₁))))
+          ap (λ (l : List Token). nonblank i ++ l) (h .same) ∙ sym (nonblank-append i o)
+          ∙ sym (nonblank-append u (i ++ o) ∙ ap (λ (l : List Token). l ++ nonblank (i ++ o)) (blanks-nonblank (gap-blank u (g₁ .0) (free-front u (i ++ o) n₁))))
           ∙ ap nonblank (span-tokens s ps);
     }
 
@@ -163,11 +148,21 @@ piecesWords-append : (ps qs : List Piece) → piecesWords (ps ++ qs) ≡ piecesW
 piecesWords-append [] qs = refl
 piecesWords-append (p ∷ ps) qs = ap (λ (l : List Token). pieceWords p ++ l) (piecesWords-append ps qs) ∙ sym (append-assoc (pieceWords p) (piecesWords ps) (piecesWords qs))
 
-pub pieces-say : {k : List ℕ} (ss : List Statement) (ps : List Placed) → Chain k (tokens ps) → firstComment ss ps ≡ none → gapsOk (spansOf ss) ps ≡ true → eachOk coveredOk ss ps ≡ true → eachOk balanceOk ss ps ≡ true
+-- tokens of which one is neither white space nor a comment
+some-word : (ts : List Token) → some? plain ts ≡ true → nonblank ts ≡ [] → ⊥
+unfolding plain nonblank
+some-word [] e n = let z : _≡_ {A = ℕ} 0 1 = cc in omega arith
+some-word (t ∷ ts) e n = go (λ f m. some-word ts f m) (blank t) refl
+  where
+    go : (some? plain ts ≡ true → nonblank ts ≡ [] → ⊥) → (b : Bool) → blank t ≡ b → ⊥
+    go ih true q = ih (rw (q, some?) at e) (rw (q, nonblank) at n)
+    go ih false q = let m : cutRight t ∷ nonblank ts ≡ [] = rw (q, nonblank) at n in let z : _≡_ {A = ℕ} 0 1 = cc in omega arith
+
+pub pieces-say : {k : List ℕ} (ss : List Statement) (ps : List Placed) → Chain k (tokens ps) → firstComment ss ps ≡ none → gapsOk (spansOf ss) ps ≡ true → eachOk coveredOk ss ps ≡ true → eachOk balanceOk ss ps ≡ true → eachOk plainOk ss ps ≡ true
     → Said (pieces ss ps) (tokens ps)
-unfolding pieces firstComment gapsOk spansOf eachOk coveredOk balanceOk
-pieces-say [] ps c f g v b = remarks-say (tokens ps) c g
-pieces-say {k} (s ∷ ss) ps c f g v b =
+unfolding pieces firstComment gapsOk spansOf eachOk coveredOk balanceOk plainOk
+pieces-say [] ps c f g v b u = remarks-say (tokens ps) c g
+pieces-say {k} (s ∷ ss) ps c f g v b y =
     let w = sym (span-tokens (s .span) ps) in
     let u = tokens (upTo (s .span .start) ps) in
     let i = tokens (within (s .span) ps) in
@@ -178,15 +173,16 @@ pieces-say {k} (s ∷ ss) ps c f g v b =
     let g₁ = and-true (every quiet u) (gapsOk (spansOf ss) (beyond (s .span) ps)) g in
     let v₁ = and-true (gapsOk (s .parts) (within (s .span) ps)) (eachOk coveredOk ss (beyond (s .span) ps)) v in
     let b₁ = and-true (every (balanced 0) (partsOf (s .parts) (within (s .span) ps))) (eachOk balanceOk ss (beyond (s .span) ps)) b in
+    let y₁ = and-true (some? plain i) (eachOk plainOk ss (beyond (s .span) ps)) y in
     let r = remarks-say u (chain-front u (i ++ o) c₁) (g₁ .0) in
     let h = parts-split (s .parts) (within (s .span) ps) (chain-front i o c₂) (comment-free (within (s .span) ps) (f₁ .0)) (v₁ .0) (b₁ .0) in
-    let t = pieces-say ss (beyond (s .span) ps) (chain-back i o c₂) (f₁ .1) (g₁ .1) (v₁ .1) (b₁ .1) in
+    let t = pieces-say ss (beyond (s .span) ps) (chain-back i o c₂) (f₁ .1) (g₁ .1) (v₁ .1) (b₁ .1) (y₁ .1) in
     record {
-      sane = sane-append (r .sane) (sane-more (sane-laid (h .parts)) (t .sane));
+      sane = sane-append (r .sane) (sane-more (sane-laid (h .parts) (λ e. some-word i (y₁ .0) (sym (h .same) ∙ e))) (t .sane));
       same =
           piecesWords-append (remarks u) (laid (partsOf (s .parts) (within (s .span) ps)) ∷ pieces ss (beyond (s .span) ps))
           ∙ ap (λ (l : List Token). l ++ (wordsAll (partsOf (s .parts) (within (s .span) ps)) ++ piecesWords (pieces ss (beyond (s .span) ps)))) (r .same)
           ∙ ap (λ (l : List Token). nonblank u ++ (l ++ piecesWords (pieces ss (beyond (s .span) ps)))) (h .same)
           ∙ ap (λ (l : List Token). nonblank u ++ (nonblank i ++ l)) (t .same)
-          ∙ ap (λ (l : List Token). nonblank u ++ l) (sym (nonblank-app i o)) ∙ sym (nonblank-app u (i ++ o)) ∙ ap nonblank (span-tokens (s .span) ps);
+          ∙ ap (λ (l : List Token). nonblank u ++ l) (sym (nonblank-append i o)) ∙ sym (nonblank-append u (i ++ o)) ∙ ap nonblank (span-tokens (s .span) ps);
     }

@@ -1,17 +1,17 @@
 -- The token rules one by one: which of them gave a token, and what may stand behind it.
 use mathlib.Core.Path.{_≡_, refl, sym, _∙_, ap, subst}
-use mathlib.Core.Bool.{Bool, true, false, not, _&&_, _||_, true≢false, false≢true}
+use mathlib.Core.Bool.{Bool, true, false, not, _&&_}
 use mathlib.Core.List.{List, [], _∷_, _++_}
 use mathlib.Core.Option.{Option, none, some}
-use Prim.Native.Nat.{ℕ, zero, suc, _+_, _<_, _≤_}
+use Prim.Native.Nat.{ℕ, suc, _+_}
 use native.Mathlib.Omega.{arith}
-use lib.Dec.{ltb, leb, eqb}
-use lib.ListN.{length, take, drop}
-use lib.Seq.{take-append-seam}
-use Rattle.dogwood_rules.specs.Basic.{runLength, if_then_else_, within, cut}
-use Rattle.dogwood_rules.specs.Token.{Token, Kind, Whitespace, Comment, String, Identifier, Number, Symbol, Other, next, white, letter, digit, wordly, single, double, other, lineEnd, closing, token, tokenise, piece, stringPiece}
-use Rattle.dogwood_rules.proofs.Runs.{run-stops, next-stops}
-use Rattle.dogwood_rules.proofs.Cutting.{cut-front}
+use lib.Dec.{eqb}
+use lib.ListN.{length, take}
+use Rattle.dogwood_rules.specs.Basic.{runLength}
+use Rattle.dogwood_rules.specs.Token.{Token, Kind, Whitespace, Comment, String, Identifier, Number, Symbol, Other, next, white, letter, digit, wordly, single, double, other, lineEnd, closing, token, piece, stringPiece}
+use Rattle.dogwood_rules.proofs.Runs.{run-more, run-passes, AllPass, pass-of}
+use borrow.Author.Tests.{eqb-true}
+use Rattle.dogwood_rules.proofs.Below.{and-true}
 
 abbrev pub inLine : ℕ → Bool
 inLine a = not (lineEnd a)
@@ -94,3 +94,21 @@ rule-of c rest t n h = go1 (white c) refl
     go1 : (b : Bool) → white c ≡ b → Goal
     go1 true e = found c rest Whitespace (runLength white rest) t n (r1 e refl refl) h
     go1 false e = go2 e (eqb c 34) refl
+
+-- Comments --------------------------------------------------------------------------------------------------
+
+pub in-line-slash : inLine 47 ≡ true
+unfolding lineEnd
+in-line-slash = refl
+
+-- the second slash of a comment is its own, and what follows it lies in the line
+pub slash-second : (c : ℕ) (more k : List ℕ) → eqb c 47 && next (eqb 47) (more ++ k) ≡ true → runLength inLine (more ++ k) ≡ length more → (rest : List ℕ) × (more ≡ 47 ∷ rest) × AllPass inLine rest
+slash-second c [] [] d q = absurd (let z = and-true (eqb c 47) false d .1 in let y : _≡_ {A = ℕ} 0 1 = cc in omega arith)
+slash-second c [] (x ∷ k) d q =
+    let h = and-true (eqb c 47) (eqb 47 x) d .1 in
+    let r : runLength inLine (x ∷ k) ≡ suc (runLength inLine k) = run-more inLine x k (ap inLine (sym (eqb-true 47 x h)) ∙ in-line-slash) in
+    absurd (omega arith)
+slash-second c (x ∷ more) k d q =
+    let h = and-true (eqb c 47) (eqb 47 x) d .1 in
+    let r = run-passes inLine x (more ++ k) (length more) q in
+    (more, ap (λ (y : ℕ). y ∷ more) (sym (eqb-true 47 x h)), pass-of inLine more k (r .1))

@@ -1,28 +1,23 @@
 -- A token that is neither white space nor a comment neither begins nor ends in white space.
 use mathlib.Core.Path.{_≡_, refl, sym, _∙_, ap, subst}
-use mathlib.Core.Bool.{Bool, true, false, not, _&&_, _||_}
-use mathlib.Core.List.{List, [], _∷_, _++_, append-nil, append-assoc}
-use mathlib.Core.Option.{Option, none, some}
-use Prim.Native.Nat.{ℕ, zero, suc, _+_, _≤_, _<_}
+use mathlib.Core.Bool.{Bool, true, false, not}
+use mathlib.Core.List.{List, [], _∷_, _++_}
+use mathlib.Core.Option.{Option, some}
+use Prim.Native.Nat.{ℕ, zero, suc, _+_}
 use native.Mathlib.Omega.{arith}
 use lib.Dec.{eqb}
-use lib.ListN.{length, take, drop}
+use lib.ListN.{take}
 use lib.Seq.{take-append-seam}
 use borrow.Author.Tests.{ne-eqb, eqb-true}
-use Rattle.dogwood_rules.specs.Basic.{cut, cutAfter, runLength, dropFront, dropBack, orDrop, same}
-use Rattle.dogwood_rules.specs.Token.{Token, Kind, Whitespace, Comment, token, tokenise, next, closing, white, wordly, digit, letter, single, other, double, spell}
+use Rattle.dogwood_rules.specs.Basic.{runLength, dropBack, orDrop}
+use Rattle.dogwood_rules.specs.Token.{Token, Kind, Whitespace, Comment, next, closing, white, wordly, digit, other, double, spell}
 use Rattle.dogwood_rules.specs.Tree.{blank, comment, opener, closer, isWhitespace, isComment}
-use Rattle.dogwood_rules.specs.Layout.{Settings, layout}
-use Rattle.dogwood_rules.specs.Outline.{balanced}
-use Rattle.dogwood_rules.specs.Claims.{nonblank}
 use Rattle.dogwood_rules.proofs.Runs.{run-more, run-none}
-use Rattle.dogwood_rules.proofs.Rules.{Rule, r1, r2, r3, r4, r5, r6, r6′, r7, rule-of, inLine}
-use Rattle.dogwood_rules.proofs.Calm.{Plain, white-calm, not-double, up, closing-escaped, closing-quote, closing-plain, up-some, closing-pos}
-use Rattle.dogwood_rules.proofs.Trim.{front-keeps, back-keeps}
-use Rattle.dogwood_rules.proofs.Spaced.{Read, Solid, Reads, nothing-read, blank-read, word-read, says, withWords}
+use Rattle.dogwood_rules.proofs.Rules.{Rule, r1, r2, r3, r4, r5, r6, r6′, r7}
+use Rattle.dogwood_rules.proofs.Calm.{Plain, white-calm, not-double, closing-escaped, closing-quote, closing-plain, up-some, closing-pos}
+use Rattle.dogwood_rules.proofs.Trim.{front-keeps, back-keeps, Solid}
 use Rattle.dogwood_rules.proofs.Trees.{AllSound, sound-end, sound-blank, sound-word}
-use Rattle.dogwood_rules.proofs.Chains.{Chain, chain-end, chain-more, tokenise-made, closing-none}
-use Rattle.dogwood_rules.proofs.Layouts.{layout-says, Ended, ended-end}
+use Rattle.dogwood_rules.proofs.Chains.{Read, Chain, chain-end, chain-more, closing-none}
 
 -- a list whose last character is no white space
 data Tail : List ℕ → Type 0 where
@@ -124,7 +119,7 @@ pub not-closer : (t : Token) (x : ℕ) (more : List ℕ) → t .text ≡ x ∷ m
 unfolding closer white
 not-closer t x more e w = rw e (simp (differ x 41 w refl, differ x 93 w refl, differ x 125 w refl))
 
-kind-plain : (k : Kind) → isWhitespace k ≡ false → isComment k ≡ false → Plain k
+pub kind-plain : (k : Kind) → isWhitespace k ≡ false → isComment k ≡ false → Plain k
 unfolding isWhitespace isComment
 kind-plain k a b =
     record { noWhitespace = λ (e : k ≡ Whitespace). clash e a refl; noComment = λ (e : k ≡ Comment). clash′ e b refl }
@@ -135,30 +130,14 @@ pub data NoComment : List Token → Type 0 where
   no-comment-end : NoComment []
   no-comment : {t : Token} {ts : List Token} → comment t ≡ false → NoComment ts → NoComment (t ∷ ts)
 
-pub record Usable (k : List ℕ) (ts : List Token) : Type 0 where
-  pub sound : AllSound ts
-  pub reads : Reads k ts
-
-pub usable : {k : List ℕ} {ts : List Token} → Chain k ts → NoComment ts → Usable k ts
+-- tokens that are read, none of them a comment: each is white space and no bracket, or solid
+pub all-sound : {k : List ℕ} {ts : List Token} → Chain k ts → NoComment ts → AllSound ts
 unfolding blank comment
-usable chain-end no-comment-end = record { sound = sound-end; reads = nothing-read }
-usable {k} (chain-more {t} {ts} r c) (no-comment n m) = go (usable c m) (blank t) refl
+all-sound chain-end no-comment-end = sound-end
+all-sound {k} (chain-more {t} {ts} r c) (no-comment n m) = go (all-sound c m) (blank t) refl
   where
-    go : Usable k ts → (b : Bool) → blank t ≡ b → Usable k (t ∷ ts)
-    go u true e =
+    go : AllSound ts → (b : Bool) → blank t ≡ b → AllSound (t ∷ ts)
+    go a true e =
         let w = blank-first (r .rule) e in
-        record { sound = sound-blank e (not-opener t (r .first) (r .more) (r .text) w) (not-closer t (r .first) (r .more) (r .text) w) (u .sound); reads = blank-read e (u .reads) }
-    go u false e =
-        let p = kind-plain (t .kind) e n in
-        record { sound = sound-word e (read-solid t (spell ts ++ k) p r) (u .sound); reads = word-read e p r (u .reads) }
-
--- NUMBER 3 FOR ONE RUN. A text without a string without end and without comments, balanced: its layout, at any depth and with any settings,
--- reads as the same tokens but for white space.
-pub run-preserved : (S : Settings) (d : ℕ) (cs : List ℕ) → tokenise cs .1 ≡ [] → NoComment (tokenise cs .0) → balanced 0 (tokenise cs .0) ≡ true
-    → says (layout S d (tokenise cs .0)) ≡ (nonblank (tokenise cs .0), [])
-unfolding says nonblank tokenise cut cutAfter
-run-preserved S d cs e n b =
-    let u = usable (tokenise-made cs .chain) n in
-    ap says (sym (append-nil (layout S d (tokenise cs .0))))
-    ∙ layout-says S d (tokenise cs .0) (tokenise cs .1) [] (u .sound) b (u .reads) ended-end
-    ∙ ap (λ (l : List Token). (l, [])) (append-nil (nonblank (tokenise cs .0)))
+        sound-blank e (not-opener t (r .first) (r .more) (r .text) w) (not-closer t (r .first) (r .more) (r .text) w) a
+    go a false e = sound-word e (read-solid t (spell ts ++ k) (kind-plain (t .kind) e n) r) a

@@ -1,24 +1,21 @@
 -- The tokens of a text are the only ones that spell it and stand.
 use mathlib.Core.Path.{_≡_, refl, sym, _∙_, ap, subst}
-use mathlib.Core.Bool.{Bool, true, false, not, _&&_, _||_}
+use mathlib.Core.Bool.{Bool, true, false, not, _&&_}
 use mathlib.Core.List.{List, [], _∷_, _++_, append-nil}
-use mathlib.Core.Option.{Option, none, some}
-use Prim.Native.Nat.{ℕ, zero, suc, _+_}
+use Prim.Native.Nat.{ℕ, _+_}
 use native.Mathlib.Omega.{arith}
 use lib.Dec.{eqb}
 use lib.ListN.{length}
 use borrow.Author.Tests.{ne-eqb, eqb-true}
 use Rattle.dogwood_rules.specs.Basic.{runLength, oneOf, cut, cutAfter}
-use Rattle.dogwood_rules.specs.Token.{Token, Kind, Whitespace, Comment, String, Identifier, Number, Symbol, Other, white, letter, digit, wordly, single, double, other, lineEnd, next, token, tokenise, closing, spell}
+use Rattle.dogwood_rules.specs.Token.{Token, Kind, Whitespace, Comment, String, Identifier, Number, Symbol, Other, white, letter, digit, wordly, single, double, other, lineEnd, next, tokenise, spell}
+use Rattle.dogwood_rules.specs.Tree.{blank, isWhitespace}
 use Rattle.dogwood_rules.specs.Stands.{symbolStops, stops, stopsBefore, Stands, stands-end, stands-more}
 use Rattle.dogwood_rules.proofs.Below.{and-true, not-true}
-use Rattle.dogwood_rules.proofs.Runs.{run-stops, run-ends, run-more, run-passes, next-stops}
-use Rattle.dogwood_rules.proofs.Rules.{Rule, r1, r2, r3, r4, r5, r6, r6′, r7, inLine}
-use Rattle.dogwood_rules.proofs.Calm.{closing-front, next-within}
-use Rattle.dogwood_rules.proofs.Follow.{run-at-end, next-at-end, and-false}
-use Rattle.dogwood_rules.proofs.Spaced.{Read, read-tokenise}
-use Rattle.dogwood_rules.proofs.Chains.{Chain, chain-end, chain-more, Made, tokenise-made}
-use Rattle.dogwood_rules.proofs.Files.{slash-second}
+use Rattle.dogwood_rules.proofs.Runs.{run-stops, run-ends, next-stops, run-at-end, next-at-end}
+use Rattle.dogwood_rules.proofs.Rules.{Rule, r1, r2, r3, r4, r5, r6, r6′, r7, inLine, slash-second}
+use Rattle.dogwood_rules.proofs.Calm.{closing-front, next-within, Plain, stays}
+use Rattle.dogwood_rules.proofs.Chains.{Read, read-tokenise, Chain, chain-end, chain-more, Made, tokenise-made}
 
 -- Characters that differ ------------------------------------------------------------------------------------------
 
@@ -125,7 +122,7 @@ stop-rule c cs x k d h (r7 a b s f g i j e q) =
 -- THE TOKENISATION IS THE ONLY ONE: tokens that stand are the tokens of the text that they spell.
 
 -- a token that is a token by itself is read there
-alone-read : (t : Token) → tokenise (t .text) ≡ (t ∷ [], []) → Read t []
+pub alone-read : (t : Token) → tokenise (t .text) ≡ (t ∷ [], []) → Read t []
 unfolding spell
 alone-read t e = first (subst (λ (r : List Token × List ℕ). Chain (r .1) (r .0)) e (tokenise-made (t .text) .chain))
   where
@@ -158,6 +155,10 @@ stands-tokenise (stands-more {t} {ts} e s a) =
     read-tokenise t (spell ts) (read-before t ts e s) ∙ ap (λ (r : List Token × List ℕ). (t ∷ r .0, r .1)) (stands-tokenise a)
 
 -- .. and the tokens of a text stand
+and-false : (a b b′ : Bool) → (b ≡ false → b′ ≡ false) → a && b ≡ false → a && b′ ≡ false
+and-false true b b′ f e = f e
+and-false false b b′ f e = refl
+
 alone-slash : (c : ℕ) (cs k : List ℕ) → eqb c 47 && next (eqb 47) (cs ++ k) ≡ true → runLength inLine (cs ++ k) ≡ length cs → eqb c 47 && next (eqb 47) (cs ++ []) ≡ true
 alone-slash c cs k s q =
     let h = slash-second c cs k s q in
@@ -174,7 +175,7 @@ alone-rule c cs k d (r6 a b s f g h e q) = r6 a b (and-false (eqb c 47) _ _ (nex
 alone-rule c cs k d (r6′ a b s f g h i e q) = r6′ a b (and-false (eqb c 47) _ _ (next-at-end (eqb 47) cs k) s) f g (next-at-end (double c) cs k h) i e q
 alone-rule c cs k d (r7 a b s f g h i e q) = r7 a b (and-false (eqb c 47) _ _ (next-at-end (eqb 47) cs k) s) f g (next-at-end (double c) cs k h) i e (run-at-end other cs k q)
 
-read-alone : (t : Token) (k : List ℕ) → Read t k → tokenise (t .text) ≡ (t ∷ [], [])
+pub read-alone : (t : Token) (k : List ℕ) → Read t k → tokenise (t .text) ≡ (t ∷ [], [])
 unfolding tokenise cut cutAfter
 read-alone t k r = ap tokenise (sym (append-nil (t .text))) ∙ read-tokenise t [] (record { first = r .first; more = r .more; text = r .text; rule = alone-rule (r .first) (r .more) k (t .kind) (r .rule) })
 
@@ -209,15 +210,15 @@ rule-stops c cs x k d (r7 a b s f g h i e q) = rw e (ap not (run-ends other cs x
 read-stops : (t : Token) (x : ℕ) (k : List ℕ) → Read t (x ∷ k) → stops (t .kind) (t .text) x ≡ true
 read-stops t x k r = subst (λ (l : List ℕ). stops (t .kind) l x ≡ true) (sym (r .text)) (rule-stops (r .first) (r .more) x k (t .kind) (r .rule))
 
-stops-next : (t : Token) {ts : List Token} → Read t (spell ts ++ []) → Chain [] ts → stopsBefore t ts ≡ true
+stops-next : (t : Token) {k : List ℕ} {ts : List Token} → Read t (spell ts ++ k) → Chain k ts → stopsBefore t ts ≡ true
 unfolding stopsBefore spell
 stops-next t r chain-end = refl
-stops-next t r (chain-more {t = u} {ts} d c) =
-    rw (d .text) (read-stops t (d .first) ((d .more ++ spell ts) ++ []) (subst (λ (l : List ℕ). Read t ((l ++ spell ts) ++ [])) (d .text) r))
+stops-next t {k} r (chain-more {t = u} {ts} d c) =
+    rw (d .text) (read-stops t (d .first) ((d .more ++ spell ts) ++ k) (subst (λ (l : List ℕ). Read t ((l ++ spell ts) ++ k)) (d .text) r))
 
-chain-stands : {ts : List Token} → Chain [] ts → Stands ts
+pub chain-stands : {k : List ℕ} {ts : List Token} → Chain k ts → Stands ts
 chain-stands chain-end = stands-end
-chain-stands (chain-more {t} {ts} r c) = stands-more (read-alone t (spell ts ++ []) r) (stops-next t r c) (chain-stands c)
+chain-stands {k} (chain-more {t} {ts} r c) = stands-more (read-alone t (spell ts ++ k) r) (stops-next t r c) (chain-stands c)
 
 pub tokenise-stands : (cs : List ℕ) (ts : List Token) → tokenise cs ≡ (ts, []) → (spell ts ≡ cs) × Stands ts
 tokenise-stands cs ts e =
@@ -226,3 +227,47 @@ tokenise-stands cs ts e =
 
 pub tokenise-only : (cs : List ℕ) (ts : List Token) → spell ts ≡ cs → Stands ts → tokenise cs ≡ (ts, [])
 tokenise-only cs ts e s = ap tokenise (sym e) ∙ stands-tokenise s
+
+-- White space behind a token ---------------------------------------------------------------------------------------
+
+-- white space ends every token but white space and a comment
+pub white-stops : (t : Token) (x : ℕ) → Plain (t .kind) → tokenise (t .text) ≡ (t ∷ [], []) → white x ≡ true → stops (t .kind) (t .text) x ≡ true
+white-stops t x p e w =
+    let r = alone-read t e in
+    subst (λ (l : List ℕ). stops (t .kind) l x ≡ true) (sym (r .text)) (rule-stops (r .first) (r .more) x [] (t .kind) (stays (r .first) (r .more) [] [] x (t .kind) p w (r .rule)))
+
+-- only white space begins in white space
+rule-first : {c : ℕ} {rest : List ℕ} {k : Kind} {n : ℕ} → Rule c rest k n → isWhitespace k ≡ white c
+unfolding isWhitespace
+rule-first (r1 a e q) = rw (e, a) refl
+rule-first (r2 a b e q) = rw (e, a) refl
+rule-first (r3 a b d e q) = rw (e, a) refl
+rule-first (r4 a b d f e q) = rw (e, a) refl
+rule-first (r5 a b d f g e q) = rw (e, a) refl
+rule-first (r6 a b d f g h e q) = rw (e, a) refl
+rule-first (r6′ a b d f g h i e q) = rw (e, a) refl
+rule-first (r7 a b d f g h i e q) = rw (e, a) refl
+
+pub read-first : {t : Token} {k : List ℕ} (r : Read t k) → blank t ≡ white (r .first)
+unfolding blank
+read-first r = rule-first (r .rule)
+
+-- White space that stands before a token that is none -----------------------------------------------------------------
+
+blank-kind : (k : Kind) → isWhitespace k ≡ true → k ≡ Whitespace
+unfolding isWhitespace
+blank-kind Whitespace e = refl
+blank-kind Comment e = absurd (let z : _≡_ {A = ℕ} 0 1 = cc in omega arith)
+blank-kind String e = absurd (let z : _≡_ {A = ℕ} 0 1 = cc in omega arith)
+blank-kind Identifier e = absurd (let z : _≡_ {A = ℕ} 0 1 = cc in omega arith)
+blank-kind Number e = absurd (let z : _≡_ {A = ℕ} 0 1 = cc in omega arith)
+blank-kind Symbol e = absurd (let z : _≡_ {A = ℕ} 0 1 = cc in omega arith)
+blank-kind Other e = absurd (let z : _≡_ {A = ℕ} 0 1 = cc in omega arith)
+
+-- white space stops before a token exactly if that is no white space
+pub blank-stops : (g u : Token) (us : List Token) → blank g ≡ true → tokenise (u .text) ≡ (u ∷ [], []) → stopsBefore g (u ∷ us) ≡ not (blank u)
+unfolding stopsBefore stops blank
+blank-stops g u us b e =
+    let r = alone-read u e in
+    let w : blank u ≡ white (r .first) = read-first r in
+    rw (blank-kind (g .kind) b, r .text) (ap not (sym w))

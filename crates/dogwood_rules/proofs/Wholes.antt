@@ -3,7 +3,7 @@ use mathlib.Core.Path.{_≡_, refl, sym, _∙_, ap, subst}
 use mathlib.Core.Bool.{Bool, true, false}
 use mathlib.Core.List.{List, [], _∷_, _++_, append-nil}
 use mathlib.Core.Option.{Option, none, some}
-use Prim.Native.Nat.{ℕ, zero, suc, _+_, _<_}
+use Prim.Native.Nat.{ℕ, suc, _+_, _<_}
 use native.Mathlib.Omega.{arith}
 use lib.Dec.{ltb, eqb}
 use lib.ListN.{length, length-append}
@@ -12,8 +12,7 @@ use Rattle.dogwood_rules.specs.Basic.{if_then_else_}
 use Rattle.dogwood_rules.specs.Utf8.{size, bytesOf, encode, byteLength, decode, textOf}
 use Rattle.dogwood_rules.specs.Token.{Token, Placed, tokenise, placed, spell, Tiled, tiled-end, tiled-more}
 use Rattle.dogwood_rules.specs.Source.{Source, tooLong, notUtf8, unended, cutInto, cutUp, decoded, sourceOf}
-use Rattle.dogwood_rules.proofs.Spaced.{Read}
-use Rattle.dogwood_rules.proofs.Chains.{Chain, chain-end, chain-more, tokenise-made}
+use Rattle.dogwood_rules.proofs.Chains.{Chain, chain-more, tokenise-made}
 use Rattle.dogwood_rules.proofs.Decoding.{decode-sound}
 
 none-left : {A : Type 0} (l : List A) → eqb (length l) 0 ≡ true → l ≡ []

@@ -5,12 +5,12 @@ use Prim.Native.Nat.{ℕ, zero, suc, _+_}
 use Prim.Native.Char.{code}
 use Prim.Native.String.{String}
 use Prim.Native.String as S
-use lib.ListN.{length, replicate}
+use lib.ListN.{length}
 use Rattle.dogwood_rules.specs.Utf8.{encode, decode}
 use Rattle.dogwood_rules.specs.Token.{Token, tokenise, kindNumber}
 use Rattle.dogwood_rules.specs.Tree.{Items, end, item, itemsOf, runOf, flat, tokensOf}
 use Rattle.dogwood_rules.specs.Layout.{Settings, house, joinLines}
-use Rattle.dogwood_rules.specs.Answer.{Answer, answer}
+use Rattle.dogwood_rules.specs.Answer.{answer}
 use Rattle.dogwood_rules.specs.Compute.{everything}
 
 -- the bytes of a written text

@@ -1,12 +1,12 @@
 -- Outlines: how their words are read, and when an outline fits a text.
 use mathlib.Core.Path.{_≡_}
 use mathlib.Core.Bool.{Bool, true, false, not, _&&_, _||_}
-use mathlib.Core.List.{List, [], _∷_, _++_}
+use mathlib.Core.List.{List, [], _∷_}
 use mathlib.Core.Option.{Option, none, some}
 use Prim.Native.Nat.{ℕ, zero, suc, _+_, _-_, _*_}
-use lib.Dec.{T, leb, ltb, eqb}
+use lib.Dec.{leb, ltb, eqb}
 use lib.ListN.{length}
-use Rattle.dogwood_rules.specs.Basic.{if_then_else_, every, some?, keepIf, cut}
+use Rattle.dogwood_rules.specs.Basic.{if_then_else_, every, some?, cut}
 use Rattle.dogwood_rules.specs.Token.{Token, Placed, tokens}
 use Rattle.dogwood_rules.specs.Tree.{blank, comment, opener, closer}
 

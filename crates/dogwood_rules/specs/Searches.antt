@@ -1,11 +1,11 @@
 -- What answers 2 and 5 tell: the first comment inside a statement, and the first opener that is nested too deep.
-use mathlib.Core.Bool.{Bool, true, false}
+use mathlib.Core.Bool.{true, false}
 use mathlib.Core.List.{List, [], _∷_}
 use mathlib.Core.Option.{Option, none, some}
 use Prim.Native.Nat.{ℕ, suc, _-_}
 use lib.Dec.{eqb}
 use Rattle.dogwood_rules.specs.Basic.{if_then_else_}
-use Rattle.dogwood_rules.specs.Token.{Token, Placed}
+use Rattle.dogwood_rules.specs.Token.{Placed}
 use Rattle.dogwood_rules.specs.Tree.{comment, opener, closer}
 use Rattle.dogwood_rules.specs.Outline.{Span, Statement, within, beyond}
 

@@ -2,8 +2,8 @@
 use mathlib.Core.Bool.{Bool, true, false, not, _&&_, _||_}
 use mathlib.Core.List.{List, [], _∷_, _++_}
 use mathlib.Core.Option.{Option, none, some}
-use Prim.Native.Nat.{ℕ, zero, suc, _+_, _<_}
-use lib.Dec.{leb, eqb}
+use Prim.Native.Nat.{ℕ, suc, _+_, _<_}
+use lib.Dec.{eqb}
 use lib.ListN.{take}
 use Rattle.dogwood_rules.specs.Basic.{if_then_else_, within, oneOf, runLength, cut}
 use Rattle.dogwood_rules.specs.Utf8.{byteLength}

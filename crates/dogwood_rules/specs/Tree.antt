@@ -1,8 +1,7 @@
 -- The flat text of a token run, a run as a tree of its groups, and the items of a group's inside.
-use mathlib.Core.Bool.{Bool, true, false, not, _&&_, _||_}
+use mathlib.Core.Bool.{Bool, true, false, _||_}
 use mathlib.Core.List.{List, [], _∷_, _++_}
-use Prim.Native.Nat.{ℕ, zero, suc, _+_}
-use lib.Dec.{ltb}
+use Prim.Native.Nat.{ℕ, _+_}
 use Rattle.dogwood_rules.specs.Basic.{if_then_else_, same, trim}
 use Rattle.dogwood_rules.specs.Token.{Token, Kind, Whitespace, Comment, String, Identifier, Number, Symbol, Other}
 
