@@ -264,6 +264,17 @@ def case(seed, index, house=False, damage=0.2):
     return made
 
 
+def deep(seed, index):
+    """One definition around the deepest nesting; narrow ones grow long."""
+    rng = random.Random(f"deep {seed} {index}")
+    width, indent = rng.choice([(80, 2), (80, 2), (200, 1), (130, 0), (40, 8)])
+    builder = Builder(rng, width, indent, comments=False)
+    builder.add(rng.choice(["", " ", "f", "// a\n"]))
+    start = builder.at
+    builder.add(builder.deep() + rng.choice(["", "(a, b)", ";", " x"]))
+    return Case("".join(builder.text).encode(), [0, start, builder.at, 1, start, builder.at], width, indent)
+
+
 def short(rng):
     alphabet = rng.choice(["a (),", "a ()[]&|,", 'a"\n(), ', " \n()a\u2028", "ab(){}&,; \u00a0é", '/a "\\\n()'])
     text = "".join(rng.choice(alphabet) for _ in range(rng.randint(0, 14)))

@@ -13,6 +13,7 @@ import tempfile
 HERE = os.path.dirname(os.path.abspath(__file__))
 TOP = os.path.dirname(HERE)
 BUILT = os.path.join(TOP, "target", "oracle")
+HOST = os.path.join(BUILT, "host")
 
 TOKENS, LAYOUT, CALL = 0, 1, 2
 ANSWERED, UNTERMINATED, PANICKED, NO_RECORDS, NO_TEXT = range(5)
@@ -69,14 +70,14 @@ def folder_of(argument=None):
     return os.path.abspath(argument or os.environ.get("ORACLE_RUST") or os.path.join(TOP, "..", "shared", "docs", "src"))
 
 
-def compile_crate(name, text, form, over):
-    path = os.path.join(BUILT, name + ".rs")
+def compile_crate(work, name, text, form, over):
+    path = os.path.join(work, name + ".rs")
     with open(path, "w", encoding="utf-8") as file:
         file.write(text)
     command = ["rustc", "-O", "--edition", "2021", "-A", "dead_code", "--crate-name", name, "--crate-type", form]
     for crate in over:
-        command += ["--extern", f"{crate}={os.path.join(BUILT, 'lib' + crate + '.rlib')}"]
-    subprocess.run(command + ["-L", BUILT, "--out-dir", BUILT, path], check=True)
+        command += ["--extern", f"{crate}={os.path.join(work, 'lib' + crate + '.rlib')}"]
+    subprocess.run(command + ["-L", work, "--out-dir", work, path], check=True)
 
 
 def read(*path):
@@ -97,6 +98,14 @@ def build(folder=None, say=lambda line: None):
         print("oracle: no rustc: not compared", file=sys.stderr)
         return None
     os.makedirs(BUILT, exist_ok=True)
+    # built aside and then moved, so that two comparisons may run at the same time
+    with tempfile.TemporaryDirectory(dir=BUILT) as work:
+        build_in(work, syntax, formatter, say)
+        os.replace(os.path.join(work, "host"), HOST)
+    return HOST
+
+
+def build_in(work, syntax, formatter, say):
     built = []
     for path, name, names, ours in (
         (syntax, "dogwood_syntax", PARSER, "parser.rs"), (formatter, "dogwood_formatter", CONSTANTS, "settings.rs"),
@@ -105,10 +114,9 @@ def build(folder=None, say=lambda line: None):
         for line in gone:
             say(f"cut from {name}: {line}")
         say(f"put into {name}: {ours}")
-        compile_crate(name, text + read(HERE, "rust", ours), "rlib", built)
+        compile_crate(work, name, text + read(HERE, "rust", ours), "rlib", built)
         built.append(name)
-    compile_crate("host", read(HERE, "rust", "host.rs"), "bin", built)
-    return os.path.join(BUILT, "host")
+    compile_crate(work, "host", read(HERE, "rust", "host.rs"), "bin", built)
 
 
 def question(what, source, outline=(), width=80, indent=2):

@@ -1,0 +1,2 @@
+def compare(count, seed):
+    return 0

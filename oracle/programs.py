@@ -1,0 +1,3 @@
+NAMES = []
+def comparison(name):
+    return None
