@@ -59,6 +59,19 @@ def calls(source, outline, table_room, output_room):
     return Record(asked, due, (source, outline, table_room, output_room))
 
 
+HEADS = {
+    "tokens": ["source bytes", "table words"], "outlines": ["source bytes", "outline words", "table words"],
+    "layout": ["source bytes", "width", "indent", "output bytes"],
+    "calls": ["source bytes", "outline words", "table words", "output bytes"],
+}
+
+
+def largest(name, records):
+    """The most that each number at the front of a record comes to: what a program must have room for."""
+    heads = [struct.unpack_from(f"<{len(HEADS[name])}I", record.asked) for record in records]
+    return ", ".join(f"{max(values)} {what}" for what, values in zip(HEADS[name], zip(*heads)))
+
+
 def upto_line_end(data, at):
     end = data.find(b"\n", at)
     return len(data) if end < 0 else end + 1

@@ -97,6 +97,39 @@ def single_damages(words):
     yield words + words
 
 
+def words_of(statements):
+    return [
+        word for s in statements for word in [s.kind, s.start, s.end, len(s.parts)] + [place for part in s.parts for place in part]
+    ]
+
+
+def damages_by_token(case):
+    """Each start and end at the token edge before and after it, each statement gone, each part cut in two or gone, and each
+    token outside as a statement of its own."""
+    _, text = reading.split_mark(case.source)
+    tokens, _ = reading.tokenise(text.decode())
+    edges = [token.start for token in tokens] + [len(text)]
+    words, statements = case.outline, reading.read_records(case.outline)
+    for index in range(len(words)):
+        if words[index] in edges:
+            at = edges.index(words[index])
+            for edge in edges[max(0, at - 1):at] + edges[at + 1:at + 2]:
+                yield words[:index] + [edge] + words[index + 1:]
+    for index, statement in enumerate(statements):
+        before, after = statements[:index], statements[index + 1:]
+        yield words_of(before + after)
+        for number, (start, end) in enumerate(statement.parts):
+            rest = statement.parts[:number], statement.parts[number + 1:]
+            yield words_of(before + [statement._replace(kind=1, parts=rest[0] + rest[1])] + after)
+            for edge in [edge for edge in edges if start < edge < end][:12]:
+                parts = rest[0] + [(start, edge), (edge, end)] + rest[1]
+                yield words_of(before + [statement._replace(kind=1, parts=parts)] + after)
+    for token in tokens:
+        if not any(reading.inside(token, s.start, s.end) for s in statements):
+            more = reading.Statement(0, token.start, token.end, [(token.start, token.end)])
+            yield words_of(sorted(statements + [more], key=lambda s: s.start))
+
+
 WRITTEN_OUTLINES = [
     (b"a", [1, 0, 1, 2147483649, 0, 1]), (b" a", [1, 1, 2, 1, 0, 2]), (b"a //c\n;", [1, 0, 7, 2, 0, 1, 6, 7]), (b"a", [1, 0, 1, 0]),
     (b"ab", [1, 0, 2, 2, 0, 1, 1, 2]), (b"a b", [1, 0, 3, 2, 0, 3, 0, 1]), (b" ", [0, 0, 1, 1, 0, 1]), (b"()", [1, 0, 2, 2, 0, 1, 1, 2]),
@@ -107,14 +140,21 @@ WRITTEN_OUTLINES = [
 ]
 
 
-def outlines_list(host):
+def outline_pairs(count, seed):
+    """Sources with outlines that fit, and with each damage of those."""
     pairs, index = list(WRITTEN_OUTLINES), 0
-    while len(pairs) < 2500:
-        case = generate.case(SEED + " outlines", index, house=True, damage=0)
+    while len(pairs) < count:
+        case = generate.case(f"{seed} outlines", index, house=True, damage=0)
         index += 1
-        if 0 < len(case.outline) <= 24 and len(case.source) <= 90 and generate.fits(case):
+        if 6 <= len(case.outline) <= 30 and len(case.source) <= 160 and generate.fits(case):
             pairs.append((case.source, case.outline))
-            pairs += [(case.source, words) for words in single_damages(case.outline)]
+            damages = list(single_damages(case.outline))[index % 2::2] + list(damages_by_token(case))
+            pairs += [(case.source, words) for words in damages]
+    return pairs
+
+
+def outlines_list(host):
+    pairs = outline_pairs(4000, SEED)
     answers = programs.agreed(host, [generate.Case(source, outline, 80, 2) for source, outline in pairs])
     found = []
     for index, ((source, outline), answer) in enumerate(zip(pairs, answers)):
@@ -238,6 +278,7 @@ def main(arguments, usage):
     asked = write(os.path.join(arguments[1], "data", "cases"), (record.asked for record in records))
     due = write(os.path.join(arguments[1], "stdout"), (record.due for record in records))
     print(f"{arguments[0]}: {len(records)} records of {asked} bytes, {due} bytes due, numbers {numbers}")
+    print(f"  at most {formats.largest(arguments[0], records)}")
     if asked > MOST_BYTES:
         print(f"record: the cases are more than {MOST_BYTES} bytes", file=sys.stderr)
         return 1

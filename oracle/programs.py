@@ -14,6 +14,7 @@ import rust
 
 NAMES = {"tokens": "tokens_replay", "outlines": "outline_replay", "layout": "layout_replay", "calls": "calls_replay"}
 MOST = 4096
+MOST_OUTPUT = 65_536
 
 
 def room_for(rng, need):
@@ -60,7 +61,7 @@ def calls_records(host, count, seed):
     rng, cases = random.Random(f"calls {seed}"), drawn(count, seed, house=True)
     found = []
     for case, answer in zip(cases, agreed(host, cases)):
-        rooms = room_for(rng, len(answer.table)), room_for(rng, len(answer.output))
+        rooms = room_for(rng, len(answer.table)), min(MOST_OUTPUT, room_for(rng, len(answer.output)))
         found.append(formats.calls(case.source, case.outline, *rooms))
     return found
 
@@ -85,7 +86,8 @@ def layout_records(host, count, seed):
         if source is None:
             continue
         laid = reading.lay_out(reading.tokenise(source.decode())[0], 0, case.width, case.indent).encode()
-        found.append(formats.layout(source, case.width, case.indent, laid, len(laid) + rng.choice([0, 0, 1, 9])))
+        if len(laid) <= MOST_OUTPUT - 9:
+            found.append(formats.layout(source, case.width, case.indent, laid, len(laid) + rng.choice([0, 0, 1, 9])))
     if host:
         asked = [rust.question(rust.LAYOUT, source, (), width, indent) for source, width, indent, _ in (r.what for r in found)]
         for record, (how, told) in zip(found, rust.ask(host, asked)):
@@ -127,6 +129,7 @@ def compare(name, count, seed):
         with open(path, "wb") as file:
             file.writelines(record.asked for record in records)
         data = run(crate, path)
+    print(f"  at most {formats.largest(name, records)}")
     found = formats.differences(name, records, data)
     for record, written in sorted(found, key=lambda difference: len(difference[0].asked))[:10]:
         print(f"DIFFERENCE: {record.what}\n  due     {record.due!r}\n  written {written!r}")

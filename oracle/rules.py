@@ -12,6 +12,7 @@ import time
 
 import expected
 import generate
+import lists
 import reading
 import rust
 
@@ -65,7 +66,8 @@ def rooms(rng, answer):
 
 def chosen(count, seed):
     """Cases that a checker computes quickly: mostly short, some longer, a few deep."""
-    found, index = [], 0
+    pairs = lists.outline_pairs(10 * count, seed)
+    found, index = [generate.Case(*pair, 80, 2) for pair in random.Random(f"pairs {seed}").sample(pairs, count // 5)], 0
     while len(found) < count:
         make = generate.deep if index % 40 == 7 else generate.small if index % 5 == 0 else generate.case
         made = make(seed, index)
