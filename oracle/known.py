@@ -5,6 +5,7 @@ Each is run on the Rust and on the second reading; a row that either no longer k
 from collections import namedtuple
 
 import expected
+import generate
 import reading
 import rust
 
@@ -74,6 +75,9 @@ TOKENS = [
     ("T4", "é//x", [(6, "é"), (1, "//x")]),
 ]
 
+# 01's examples of insides: their items
+INSIDES = [("a && b,", ["a", "&& b,"]), ("a, b && c", ["a,", "b && c"])]
+
 
 def table_of(tokens):
     words, at = [], 0
@@ -94,14 +98,8 @@ def refusal_fault(row, how, told):
         return f"reading finds: {sentence(row)}"
     if row.rust is PANIC:
         return None if how == rust.PANICKED else f"the Rust wrote {told!r}"
-    due = expected.full_layout(row_case(row)) if row.rust is None else row.rust
+    due = expected.full_layout(generate.Case(row.source, row.outline, 80, 2)) if row.rust is None else row.rust
     return None if (how, told) == (rust.ANSWERED, due) else f"the Rust did {how} {told!r}"
-
-
-def row_case(row):
-    import generate
-
-    return generate.Case(row.source, row.outline, 80, 2)
 
 
 def sentence(row):
@@ -115,29 +113,57 @@ def told_as(row, how, told):
     return "gave the source back" if told == row.source else f"wrote {told[:24]!r}{'..' if len(told) > 24 else ''}"
 
 
-def compare(count, seed):
+def refusals_kept(host):
+    """Says what the Rust does in each row; how many rows are not kept."""
+    told = rust.ask(host, [rust.question(rust.CALL, row.source, row.outline) for row in REFUSALS])
+    faults = 0
+    for row, (how, written) in zip(REFUSALS, told):
+        fault = refusal_fault(row, how, written)
+        source = row.source if len(row.source) < 24 else row.source[:8] + b".."
+        print(f"{row.what}: {source!r} {row.outline}: the Rust {told_as(row, how, written)}")
+        if fault:
+            print(f"  DIFFERENCE: {fault}")
+            faults += 1
+    return faults
+
+
+def examples_kept(host):
+    told = rust.ask(host, [rust.question(rust.CALL, row.source, row.outline) for row in EXAMPLES])
+    faults = 0
+    for row, (how, written) in zip(EXAMPLES, told):
+        answer = reading.answer(80, 2, row.source, row.outline, expected.NO_LIMIT, expected.NO_LIMIT)
+        if (answer.number, answer.place, answer.output) != row[3:] or (how, written) != (rust.ANSWERED, row.output):
+            print(f"DIFFERENCE {row.what}: reading {answer[:3]}, the Rust {how} {written!r}")
+            faults += 1
+    return faults
+
+
+def tokens_kept(host):
+    told = rust.ask(host, [rust.question(rust.TOKENS, text.encode()) for _, text, _ in TOKENS])
+    faults = 0
+    for (what, text, tokens), (_, written) in zip(TOKENS, told):
+        if not table_of(tokens) == reading.tokenising(text.encode(), expected.NO_LIMIT)[2] == rust.words_of(written):
+            print(f"DIFFERENCE {what}: the Rust {rust.words_of(written)}")
+            faults += 1
+    return faults
+
+
+def insides_kept(host):
+    """A group too wide for any line shows its items one below the other."""
+    told = rust.ask(host, [rust.question(rust.LAYOUT, f"({inside})".encode(), (), 7, 0) for inside, _ in INSIDES])
+    faults = 0
+    for (inside, items), (_, written) in zip(INSIDES, told):
+        found = [reading.flat(item) for item in reading.items(reading.tokenise(inside)[0])]
+        if found != items or written.decode() != "\n".join(["("] + items + [")"]):
+            print(f"DIFFERENCE {inside}: reading {found}, the Rust {written!r}")
+            faults += 1
+    return faults
+
+
+def compare(_count, _seed):
     host = rust.build()
     if not host:
         return 0
-    rows = REFUSALS + EXAMPLES
-    told = rust.ask(host, [rust.question(rust.CALL, row.source, row.outline) for row in rows])
-    faults = 0
-    for row, (how, bytes_told) in zip(REFUSALS, told):
-        fault = refusal_fault(row, how, bytes_told)
-        source = row.source if len(row.source) < 24 else row.source[:8] + b".."
-        print(f"{'DIFFERENCE ' if fault else ''}{row.what}: {source!r} {row.outline}: the Rust {told_as(row, how, bytes_told)}{'; ' + fault if fault else ''}")
-        faults += fault is not None
-    for row, (how, bytes_told) in zip(EXAMPLES, told[len(REFUSALS):]):
-        answer = reading.answer(80, 2, row.source, row.outline, expected.NO_LIMIT, expected.NO_LIMIT)
-        if (answer.number, answer.place, answer.output) != row[3:] or (how, bytes_told) != (rust.ANSWERED, row.output):
-            print(f"DIFFERENCE {row.what}: reading {answer[:3]}, the Rust {how} {bytes_told!r}")
-            faults += 1
-    told = rust.ask(host, [rust.question(rust.TOKENS, text.encode()) for _, text, _ in TOKENS])
-    for (what, text, tokens), (_, bytes_told) in zip(TOKENS, told):
-        if not table_of(tokens) == reading.tokenising(text.encode(), expected.NO_LIMIT)[2] == rust.words_of(bytes_told):
-            print(f"DIFFERENCE {what}: the Rust {rust.words_of(bytes_told)}")
-            faults += 1
-    how, told_place = rust.ask(host, [rust.question(rust.CALL, b"\x80")])[0]
-    print(f"12: not UTF-8: b'\\x80': the Rust cannot be asked; its standard library finds the fault at {rust.words_of(told_place)[0]}")
-    print(f"known: {len(rows) + len(TOKENS)} rows, {faults} differences")
-    return 1 if faults or how != rust.NO_TEXT else 0
+    faults = refusals_kept(host) + examples_kept(host) + tokens_kept(host) + insides_kept(host)
+    print(f"known: {len(REFUSALS) + len(EXAMPLES) + len(TOKENS) + len(INSIDES)} rows, {faults} differences")
+    return 1 if faults else 0

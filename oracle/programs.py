@@ -22,14 +22,14 @@ def room_for(rng, need):
     return max(0, need + rng.choice([0, 0, 0, 1, 2, 3, 7, -1, -need]))
 
 
-def drawn(count, seed, house):
-    """Generated cases and their answers in large rooms. The Rust and the reading must agree on each."""
+def drawn(count, seed):
+    """Generated cases at 01's width and indent, mostly fitting, some short, some deep."""
     cases, index = [], 0
     while len(cases) < count:
-        make = (lambda: generate.small(seed, index)) if index % 4 == 0 else (lambda: generate.case(seed, index, house))
-        made = make()._replace(width=80, indent=2) if house else make()
+        make = generate.deep if index % 60 == 7 else generate.small if index % 4 == 0 else generate.case
+        made = make(seed, index)
         if len(made.source) <= MOST:
-            cases.append(made)
+            cases.append(made._replace(width=80, indent=2))
         index += 1
     return cases
 
@@ -44,12 +44,12 @@ def agreed(host, cases):
 
 
 def tokens_records(host, count, seed):
-    rng, cases = random.Random(f"tokens {seed}"), drawn(count, seed, house=True)
+    rng, cases = random.Random(f"tokens {seed}"), drawn(count, seed)
     return [formats.tokens(case.source, room_for(rng, len(answer.table))) for case, answer in zip(cases, agreed(host, cases))]
 
 
 def outlines_records(host, count, seed):
-    rng, cases = random.Random(f"outlines {seed}"), drawn(count, seed, house=True)
+    rng, cases = random.Random(f"outlines {seed}"), drawn(count, seed)
     cases = [
         case._replace(outline=generate.damaged_outline(rng, case.outline)) if rng.random() < 0.6 else case for case in cases
     ]
@@ -58,7 +58,7 @@ def outlines_records(host, count, seed):
 
 
 def calls_records(host, count, seed):
-    rng, cases = random.Random(f"calls {seed}"), drawn(count, seed, house=True)
+    rng, cases = random.Random(f"calls {seed}"), drawn(count, seed)
     found = []
     for case, answer in zip(cases, agreed(host, cases)):
         rooms = room_for(rng, len(answer.table)), min(MOST_OUTPUT, room_for(rng, len(answer.output)))
