@@ -3,6 +3,7 @@
 A copy of the repository's crates stands in target/oracle/rules with one crate more, whose files state each row as an equation and
 prove it by computing. What a row must answer comes from the Rust and the second reading, never from the definitions.
 """
+import itertools
 import os
 import random
 import re
@@ -64,8 +65,16 @@ def rooms(rng, answer):
     return max(0, words - rng.choice([0, 0, 0, 1, 2, 3, words])), max(0, size - rng.choice([0, 1, size]))
 
 
+def written():
+    """Rows that each run has: what is written down, bytes around the edges of RFC 3629's ranges, line ends, symbols, the deepest nesting."""
+    for source, outline in lists.WRITTEN_OUTLINES + lists.WRITTEN_CALLS + list(lists.nested_ones()):
+        yield generate.Case(source, outline, 80, 2)
+    for source in itertools.chain(lists.bad_sources(), lists.marks_and_line_ends()):
+        yield generate.Case(source, [], 80, 2)
+
+
 def chosen(count, seed):
-    """Cases that a checker computes quickly: mostly short, some longer, a few deep."""
+    """Cases that a checker computes quickly: mostly short, some longer, a few deep, some with a damaged outline."""
     pairs = lists.outline_pairs(10 * count, seed)
     found, index = [generate.Case(*pair, 80, 2) for pair in random.Random(f"pairs {seed}").sample(pairs, count // 5)], 0
     while len(found) < count:
@@ -146,13 +155,15 @@ def hold(rows):
 def compare(count, seed):
     host = rust.build()
     began = time.time()
-    cases = chosen(count, seed)
+    first = list(written())
+    cases = first + chosen(count, seed)
     answers, counts, differences = expected.calls(host, cases)
     for case, why in differences:
         print(f"DIFFERENCE of reading and Rust: {case}: {why}")
     rows, rng = {}, random.Random(f"rooms {seed}")
     for index, (case, answer) in enumerate(zip(cases, answers)):
-        table_room, output_room = rooms(rng, answer)
+        room_enough = len(answer.table), len(answer.output)
+        table_room, output_room = room_enough if index < len(first) else rooms(rng, answer)
         rows[index] = tokens_row(case, table_room) if index % 6 == 5 else call_row(case, table_room, output_room)
     copy_of_repository()
     refused = hold(rows)
@@ -161,7 +172,7 @@ def compare(count, seed):
         return 1
     for index, why in sorted(refused.items()):
         print(f"DIFFERENCE: {cases[index]}\n  {rows[index]}\n  {why}")
-    print(f"rules: {len(rows) - len(refused)} rows agree, {len(refused)} differ, {time.time() - began:.0f} s")
+    print(f"rules: {len(rows) - len(refused)} rows ({len(first)} written, {count} made) agree, {len(refused)} differ, {time.time() - began:.0f} s")
     if host:
         print("  held against the Rust: " + ", ".join(f"{compared} {counts[compared]}" for compared in sorted(counts)))
     return 1 if refused or differences else 0
