@@ -67,7 +67,8 @@ def rooms(rng, answer):
 
 def written():
     """Rows that each run has: what is written down, bytes around the edges of RFC 3629's ranges, line ends, symbols, the deepest nesting."""
-    for source, outline in lists.WRITTEN_OUTLINES + lists.WRITTEN_CALLS + list(lists.nested_ones()):
+    nested = [b"[" * levels + b"a" + b"]" * levels for levels in (64, 65)]
+    for source, outline in lists.WRITTEN_OUTLINES + lists.WRITTEN_CALLS + [(source, lists.one(source)) for source in nested]:
         yield generate.Case(source, outline, 80, 2)
     for source in itertools.chain(lists.bad_sources(), lists.marks_and_line_ends()):
         yield generate.Case(source, [], 80, 2)
