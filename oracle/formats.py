@@ -1,0 +1,108 @@
+"""The case files that our programs read, and what they must write for each record. All numbers are u32, low byte first.
+
+  tokens    source length, table words; source
+            -> `number value`, then each word of the table, in one line
+  outlines  source length, outline words, table words; source, outline
+            -> as tokens
+  layout    source length, width, indent, output room; source
+            -> `length`, LF, the layout, LF
+  calls     source length, outline words, table words, output room; source, outline
+            -> `number place length`, LF, the whole output, LF, the table's words, LF
+
+Tables are filled with 4294967295 and outputs with 7E before the call, so that what must stay as it was is seen.
+"""
+import struct
+from collections import namedtuple
+
+import reading
+
+EMPTY_WORD = 4294967295
+EMPTY_BYTE = b"\x7e"
+
+Record = namedtuple("Record", "asked due what")
+
+
+def words_after(table, room):
+    return table + [EMPTY_WORD] * (room - len(table))
+
+
+def line(values):
+    return " ".join(map(str, values)).encode() + b"\n"
+
+
+def packed(*numbers):
+    return struct.pack(f"<{len(numbers)}I", *numbers)
+
+
+def tokens(source, room):
+    number, value, table = reading.tokenising(source, room)
+    return Record(packed(len(source), room) + source, line([number, value] + words_after(table, room)), (source, room))
+
+
+def outlines(source, outline, room):
+    number, value, table = reading.testing(source, outline, room)
+    asked = packed(len(source), len(outline), room) + source + packed(*outline)
+    return Record(asked, line([number, value] + words_after(table, room)), (source, outline, room))
+
+
+def layout(source, width, indent, laid, room):
+    asked = packed(len(source), width, indent, room) + source
+    return Record(asked, line([len(laid)]) + laid + b"\n", (source, width, indent, room))
+
+
+def calls(source, outline, table_room, output_room):
+    answer = reading.answer(80, 2, source, outline, table_room, output_room)
+    asked = packed(len(source), len(outline), table_room, output_room) + source + packed(*outline)
+    due = line([answer.number, answer.place, len(answer.output)])
+    due += answer.output + EMPTY_BYTE * (output_room - len(answer.output)) + b"\n"
+    due += line(words_after(answer.table, table_room))
+    return Record(asked, due, (source, outline, table_room, output_room))
+
+
+HEADS = {
+    "tokens": ["source bytes", "table words"], "outlines": ["source bytes", "outline words", "table words"],
+    "layout": ["source bytes", "width", "indent", "output bytes"],
+    "calls": ["source bytes", "outline words", "table words", "output bytes"],
+}
+
+
+def largest(name, records):
+    """The most that each number at the front of a record comes to: what a program must have room for."""
+    heads = [struct.unpack_from(f"<{len(HEADS[name])}I", record.asked) for record in records]
+    return ", ".join(f"{max(values)} {what}" for what, values in zip(HEADS[name], zip(*heads)))
+
+
+def upto_line_end(data, at):
+    end = data.find(b"\n", at)
+    return len(data) if end < 0 else end + 1
+
+
+def written_line(data, at, record):
+    return upto_line_end(data, at)
+
+
+def written_layout(data, at, record):
+    head = upto_line_end(data, at)
+    length = data[at:head].strip()
+    return head + (int(length) if length.isdigit() else 0) + 1
+
+
+def written_call(data, at, record):
+    return upto_line_end(data, upto_line_end(data, at) + record.what[3] + 1)
+
+
+# where a program's answer to a record ends
+ENDS = {"tokens": written_line, "outlines": written_line, "layout": written_layout, "calls": written_call}
+
+
+def differences(name, records, data):
+    """(record, what was written) wherever that is not what is due."""
+    found, at = [], 0
+    for record in records:
+        end = min(len(data), ENDS[name](data, at, record))
+        if data[at:end] != record.due:
+            found.append((record, data[at:end]))
+        at = end
+    if at != len(data):
+        found.append((Record(b"", b"", "after the last record"), data[at:]))
+    return found

@@ -1,0 +1,142 @@
+"""Our programs, built, run on generated cases, and held to what is due."""
+import os
+import random
+import re
+import subprocess
+import tempfile
+import time
+
+import expected
+import formats
+import generate
+import reading
+import rust
+
+NAMES = {"tokens": "tokens_replay", "outlines": "outline_replay", "layout": "layout_replay", "calls": "calls_replay"}
+MOST = 4096
+MOST_OUTPUT = 65_536
+
+
+def room_for(rng, need):
+    """Mostly exact or a little more, now and then one short, or nothing."""
+    return max(0, need + rng.choice([0, 0, 0, 1, 2, 3, 7, -1, -need]))
+
+
+def drawn(count, seed):
+    """Generated cases at 01's width and indent, mostly fitting, some short, some deep."""
+    cases, index = [], 0
+    while len(cases) < count:
+        make = generate.deep if index % 60 == 7 else generate.small if index % 4 == 0 else generate.case
+        made = make(seed, index)
+        if len(made.source) <= MOST:
+            cases.append(made._replace(width=80, indent=2))
+        index += 1
+    return cases
+
+
+def agreed(host, cases):
+    answers, _, found = expected.calls(host, cases)
+    for case, why in found:
+        print(f"DIFFERENCE of reading and Rust: {case}: {why}")
+    if found:
+        raise SystemExit("oracle: the reading and the Rust disagree, so nothing is due")
+    return answers
+
+
+def tokens_records(host, count, seed):
+    rng, cases = random.Random(f"tokens {seed}"), drawn(count, seed)
+    return [formats.tokens(case.source, room_for(rng, len(answer.table))) for case, answer in zip(cases, agreed(host, cases))]
+
+
+def outlines_records(host, count, seed):
+    rng, cases = random.Random(f"outlines {seed}"), drawn(count, seed)
+    cases = [
+        case._replace(outline=generate.damaged_outline(rng, case.outline)) if rng.random() < 0.6 else case for case in cases
+    ]
+    answers = agreed(host, cases)
+    return [formats.outlines(case.source, case.outline, room_for(rng, len(answer.table))) for case, answer in zip(cases, answers)]
+
+
+def calls_records(host, count, seed):
+    rng, cases = random.Random(f"calls {seed}"), drawn(count, seed)
+    found = []
+    for case, answer in zip(cases, agreed(host, cases)):
+        rooms = room_for(rng, len(answer.table)), min(MOST_OUTPUT, room_for(rng, len(answer.output)))
+        found.append(formats.calls(case.source, case.outline, *rooms))
+    return found
+
+
+def part_of(rng, case):
+    """The bytes of some part that can be laid out by itself, or None: it balances, holds no comment, is not too deep."""
+    _, text = reading.split_mark(case.source)
+    if reading.answer(80, 2, case.source, case.outline, expected.NO_LIMIT, expected.NO_LIMIT).number != 0:
+        return None
+    parts = [text[start:end] for statement in reading.read_records(case.outline) for start, end in statement.parts]
+    parts = [part for part in parts if not part.startswith(reading.MARK) and len(part) <= MOST]
+    return rng.choice(parts) if parts else None
+
+
+def layout_records(host, count, seed):
+    """Whole parts, laid out at several widths and indents; the Rust and the reading must agree on each."""
+    rng, found, index = random.Random(f"layout {seed}"), [], 0
+    while len(found) < count:
+        case = generate.deep(seed, index) if index % 60 == 7 else generate.case(seed, index, damage=0)
+        index += 1
+        source = part_of(rng, case)
+        if source is None:
+            continue
+        laid = reading.lay_out(reading.tokenise(source.decode())[0], 0, case.width, case.indent).encode()
+        if len(laid) <= MOST_OUTPUT - 9:
+            found.append(formats.layout(source, case.width, case.indent, laid, len(laid) + rng.choice([0, 0, 1, 9])))
+    if host:
+        asked = [rust.question(rust.LAYOUT, source, (), width, indent) for source, width, indent, _ in (r.what for r in found)]
+        for record, (how, told) in zip(found, rust.ask(host, asked)):
+            if how != rust.ANSWERED or formats.line([len(told)]) + told + b"\n" != record.due:
+                raise SystemExit(f"oracle: the reading and the Rust disagree on the layout of {record.what}: {told!r}, {record.due!r}")
+    return found
+
+
+RECORDS = {"tokens": tokens_records, "outlines": outlines_records, "layout": layout_records, "calls": calls_records}
+
+
+def listed(crate):
+    with open(os.path.join(rust.TOP, "crates.txt"), encoding="utf-8") as file:
+        return any(re.match(rf"\s*{crate}\s*:", text) for text in file)
+
+
+def run(crate, path):
+    """What the program writes, run under the kit's loader."""
+    subprocess.run(["rt", "check", crate], cwd=rust.TOP, check=True, stdout=subprocess.DEVNULL)
+    guide = subprocess.run(["rt", "doc"], check=True, stdout=subprocess.PIPE).stdout.decode().strip()
+    home = os.path.dirname(os.path.dirname(guide))
+    tools = os.path.join(home, "on", os.uname().machine, "toolchain")
+    emulator = os.path.join(tools, "bin", "qemu-x86_64")
+    command = [emulator] if os.access(emulator, os.X_OK) else []
+    command += [os.path.join(tools, "lib", "ld-linux-x86-64.so.2"), "--library-path", os.path.join(tools, "lib")]
+    command += [os.path.join(rust.TOP, "target", "bin", crate), path]
+    return subprocess.run(command, check=True, stdout=subprocess.PIPE).stdout
+
+
+def compare(name, count, seed):
+    crate = NAMES[name]
+    if not listed(crate):
+        print(f"{name}: crates.txt lists no crate {crate} yet: not compared")
+        return 1
+    host, began = rust.build(), time.time()
+    records = RECORDS[name](host, count, seed)
+    with tempfile.TemporaryDirectory() as work:
+        path = os.path.join(work, "cases")
+        with open(path, "wb") as file:
+            file.writelines(record.asked for record in records)
+        data = run(crate, path)
+    print(f"  at most {formats.largest(name, records)}")
+    found = formats.differences(name, records, data)
+    for record, written in sorted(found, key=lambda difference: len(difference[0].asked))[:10]:
+        print(f"DIFFERENCE: {record.what}\n  due     {record.due!r}\n  written {written!r}")
+    against = "the Rust and the second reading" if host else "the second reading alone"
+    print(f"{name}: {len(records)} cases against {against}, {len(found)} differences, {time.time() - began:.0f} s")
+    return 1 if found else 0
+
+
+def comparison(name):
+    return lambda count, seed: compare(name, count, seed)
