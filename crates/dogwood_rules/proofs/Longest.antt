@@ -6,7 +6,7 @@ use Prim.Native.Nat.{ℕ, suc, _<_, _≤_}
 use native.Mathlib.Omega.{arith}
 use lib.Dec.{ltb, eqb}
 use lib.ListN.{length}
-use borrow.Author.Tests.{lt-ltb, ltb-true}
+use borrow.Author.Tests.{ltb-true}
 use Rattle.dogwood_rules.specs.Utf8.{decode, textOf}
 use Rattle.dogwood_rules.specs.Token.{Token, tokenise}
 use Rattle.dogwood_rules.specs.Source.{Source, tooLong, notUtf8, unended, cutInto, cutUp, decoded, sourceOf}
@@ -14,10 +14,7 @@ use Rattle.dogwood_rules.specs.Layout.{Settings}
 use Rattle.dogwood_rules.specs.Answer.{answer, answered, refused}
 use Rattle.dogwood_rules.specs.Alone.{stopped, told, tokenised, tested}
 use Rattle.dogwood_rules.specs.Readings.{Reading, reading, readingOf, refused as refused-reading}
-
-pub long : (source : List ℕ) → 1048576 < length source → sourceOf source ≡ tooLong
-unfolding sourceOf
-long source h = simp (lt-ltb 1048576 (length source) h)
+use Rattle.dogwood_rules.proofs.Sources.{source-long}
 
 isLong : Source → Bool
 isLong tooLong = true
@@ -41,7 +38,7 @@ decoded-short source r = go (eqb (length (r .1)) 0) refl
     go true e = rw e (cut-short source (tokenise (r .0)))
     go false e = rw e refl
 
--- .. and only then
+-- a source is too long only then
 pub only-long : (source : List ℕ) → sourceOf source ≡ tooLong → 1048576 < length source
 unfolding isLong sourceOf
 only-long source e = go (ltb 1048576 (length source)) refl
@@ -54,16 +51,16 @@ only-long source e = go (ltb 1048576 (length source)) refl
 module _ (source : List ℕ) (h : 1048576 < length source) where
   pub long-answer : (S : Settings) (outline : List ℕ) (tableRoom outputRoom : ℕ) → answer S source outline tableRoom outputRoom ≡ refused 11 0
   unfolding answer answered
-  long-answer S outline tableRoom outputRoom = ap (answered S source outline tableRoom outputRoom) (long source h)
+  long-answer S outline tableRoom outputRoom = ap (answered S source outline tableRoom outputRoom) (source-long source h)
 
   pub long-tokenised : (tableRoom : ℕ) → tokenised source tableRoom ≡ stopped 11 0
   unfolding tokenised told
-  long-tokenised tableRoom = rw (long source h) refl
+  long-tokenised tableRoom = rw (source-long source h) refl
 
   pub long-tested : (outline : List ℕ) (tableRoom : ℕ) → tested source outline tableRoom ≡ stopped 11 0
   unfolding tested told
-  long-tested outline tableRoom = rw (long source h) refl
+  long-tested outline tableRoom = rw (source-long source h) refl
 
   pub long-reading : (n : ℕ) → reading source n ≡ refused-reading 11 0
   unfolding reading readingOf
-  long-reading n = rw (long source h) refl
+  long-reading n = rw (source-long source h) refl
