@@ -28,7 +28,7 @@ use mathlib.Core.List.{List, [], _∷_}
 use Prim.Native.Nat.{ℕ}
 use Rattle.dogwood_rules.specs.Layout.{Settings}
 use Rattle.dogwood_rules.specs.Answer.{Answer, answer}
-use Rattle.dogwood_rules.specs.Tokenising.{Tokenised, tokenised}
+use Rattle.dogwood_rules.specs.Alone.{Alone, tokenised, tested}
 use Rattle.dogwood_rules.specs.Compute.{everything}
 
 abbrev setting : ℕ → ℕ → Settings
@@ -37,8 +37,8 @@ setting w i = record { width = w; indent = i }
 abbrev gives : ℕ → ℕ → List ℕ → List ℕ → Answer
 gives n place out table = record { number = n; place = place; output = out; table = table }
 
-abbrev tokens : ℕ → ℕ → List ℕ → Tokenised
-tokens n value table = record { number = n; value = value; table = table }
+abbrev tells : ℕ → ℕ → List ℕ → Alone
+tells n value table = record { number = n; value = value; table = table }
 """
 
 
@@ -54,7 +54,12 @@ def call_row(case, table_room, output_room):
 
 def tokens_row(case, table_room):
     number, value, table = reading.tokenising(case.source, table_room)
-    return f"tokenised {numbers(case.source)} {table_room} ≡ tokens {number} {value} {numbers(table)}"
+    return f"tokenised {numbers(case.source)} {table_room} ≡ tells {number} {value} {numbers(table)}"
+
+
+def tests_row(case, table_room):
+    number, value, table = reading.testing(case.source, case.outline, table_room)
+    return f"tested {numbers(case.source)} {numbers(case.outline)} {table_room} ≡ tells {number} {value} {numbers(table)}"
 
 
 def rooms(rng, answer):
@@ -165,7 +170,12 @@ def compare(count, seed):
     for index, (case, answer) in enumerate(zip(cases, answers)):
         room_enough = len(answer.table), len(answer.output)
         table_room, output_room = room_enough if index < len(first) else rooms(rng, answer)
-        rows[index] = tokens_row(case, table_room) if index % 6 == 5 else call_row(case, table_room, output_room)
+        if index % 6 == 5:
+            rows[index] = tokens_row(case, table_room)
+        elif index % 6 == 3:
+            rows[index] = tests_row(case, table_room)
+        else:
+            rows[index] = call_row(case, table_room, output_room)
     copy_of_repository()
     refused = hold(rows)
     if refused is None:
