@@ -8,7 +8,7 @@ use native.Mathlib.Omega.{arith}
 use lib.Dec.{ltb, leb}
 use lib.ListN.{length, drop}
 use lib.Seq.{drop-append-seam}
-use Rattle.dogwood_rules.specs.Utf8.{decode, encode, marked, markOf, textOf}
+use Rattle.dogwood_rules.specs.Utf8.{decode, encode, marked, markOf, textOf, AllScalar}
 use Rattle.dogwood_rules.specs.Token.{Token, Placed, tokenise, tokens, placed, spell, wordsOf}
 use Rattle.dogwood_rules.specs.Source.{Source, tooLong, notUtf8, unended, cutInto, sourceOf}
 use Rattle.dogwood_rules.specs.Layout.{Settings}
@@ -20,7 +20,7 @@ use Rattle.dogwood_rules.specs.Made.{fileAs}
 use Rattle.dogwood_rules.specs.Claims.{nonblank, codesOf, tokensIn, piecesOf, layoutOf, madeOf, behindMark, Number3, Number3′, SameTokens}
 use Rattle.dogwood_rules.proofs.Wholes.{Whole, source-whole}
 use Rattle.dogwood_rules.proofs.Fitting.{fits-says}
-use Rattle.dogwood_rules.proofs.RoundTrip.{AllScalar, decode-encode}
+use Rattle.dogwood_rules.proofs.RoundTrip.{decode-encode}
 use Rattle.dogwood_rules.proofs.Decoding.{decode-sound}
 use Rattle.dogwood_rules.proofs.Scalars.{Plain-text, plain-pieces, file-scalars, scalars-front}
 use Rattle.dogwood_rules.proofs.Standing.{tokenise-only}
