@@ -1,0 +1,94 @@
+use Rattle.pen.proofs.Laws.{wrote-length}
+use Rattle.dogwood_formatter.proofs.Loops.{FlatAt, flat-start, flat-turn, flat-end}
+use Rattle.dogwood_formatter.proofs.Tables.{held-at, entry-there}
+use lib.ListN.{length, take, drop, getD}
+use borrow.Author.Needs.{needs}
+use native.Mathlib.Omega.{arith}
+use Prim.Native.Nat.{ℕ, suc, _+_, _-_, _*_, _≤_, _<_}
+use mathlib.Core.Path.{_≡_, refl, sym, ap, _∙_, subst}
+use Rattle.dogwood_formatter.proofs.flat.Statement.{statement}
+use Rattle.dogwood_formatter.proofs.flat.Tie as tie
+use Rattle.dogwood_formatter.proofs.flat.Reads as reads
+use Rattle.dogwood_formatter.proofs.flat.Lts as lts
+use Rattle.dogwood_formatter.proofs.entry_at.Reads as entry-at-reads
+use Rattle.dogwood_formatter.proofs.put_token.Reads as put-token-reads
+use Rattle.pen.proofs.add.Reads as add-reads
+use Rattle.pen.proofs.clip.Reads as clip-reads
+
+abbrev Inv-loop : tie.InvT-loop
+Inv-loop out₀ text table n₀ i₀ out n i = (length out ≡ length out₀) × FlatAt text table out₀ out n i
+
+abbrev μ-loop : tie.MeasureT-loop
+μ-loop out₀ text table n₀ i₀ out n i = length table - i
+
+-- src/lib.rt:234:5
+loop-holds : tie.Need-loop-holds Inv-loop μ-loop
+loop-holds c = (refl, flat-start _ _ _ (c .before .before .before .pre))
+
+-- src/lib.rt:235:13
+entry-at-requires : tie.Need-entry-at-requires Inv-loop μ-loop
+entry-at-requires c κs = entry-there _ _ _ (c .before .loop .inv .1 .holds) (c .loop-test .taken)
+
+-- src/lib.rt:236:13
+clip-requires : tie.Need-clip-requires Inv-loop μ-loop
+clip-requires c κs = search needs
+
+-- src/lib.rt:237:30
+sub-put-token : tie.Need-sub-put-token Inv-loop μ-loop
+sub-put-token c = search needs
+
+-- src/lib.rt:237:30
+part-put-token-start : tie.Need-part-put-token-start Inv-loop μ-loop
+part-put-token-start c = search needs
+
+-- src/lib.rt:237:30
+part-put-token-end : tie.Need-part-put-token-end Inv-loop μ-loop
+part-put-token-end c = search needs
+
+-- src/lib.rt:237:20
+put-token-requires : tie.Need-put-token-requires Inv-loop μ-loop
+put-token-requires c κs = held-at _ _ _ (c .before .before .before .before .loop .inv .1 .holds) (c .before .before .before .loop-test .taken) (c .before .before .entry-at .ensures)
+
+-- src/lib.rt:237:9
+add-requires : tie.Need-add-requires Inv-loop μ-loop
+add-requires c κs = search needs
+
+-- src/lib.rt:238:9
+add-i : tie.Need-add-i Inv-loop μ-loop
+add-i c = (let a = c .before .before .before .before .before .before .before .before .loop .inv .1 .fits in let b = c .before .before .before .before .before .before .before .loop-test .taken in let g = c .before .before .before .before .before .before .before .before .before .before .before .before .good in search needs)
+
+-- src/lib.rt:234:5
+loop-less : tie.Need-loop-less Inv-loop μ-loop
+loop-less c = (let b = c .before .before .before .before .before .before .before .loop-test .taken in omega arith)
+
+-- src/lib.rt:234:5
+loop-again : tie.Need-loop-again Inv-loop μ-loop
+loop-again c = (let g = flat-turn _ _ _ _ _ _ (c .before .before .before .before .before .before .before .before .loop .inv .1) (c .before .before .before .before .before .before .before .loop-test .taken) (c .before .before .before .before .before .before .entry-at .ensures) (c .before .before .before .before .before .clip .ensures .place) (omega (arith, c .before .before .before .before .before .before .before .before .loop .inv .0, c .before .before .before .before .before .before .before .before .before .before .before .before .good .0 .1)) (c .before .before .before .put-token .ensures) (c .add .ensures .sum) in (wrote-length (g .wrote), g))
+
+-- src/lib.rt:228:1
+same-length : tie.Need-same-length Inv-loop μ-loop
+same-length c = search needs
+
+-- src/lib.rt:228:1
+returns : tie.Need-returns Inv-loop μ-loop
+returns c = flat-end _ _ _ _ _ _ (c .before .loop .inv .1) (omega (arith, c .loop-test .left))
+
+pub flat-spec : {M : Type 1} → statement M
+flat-spec =
+    tie.close
+    (tie.spec
+    Inv-loop
+    μ-loop
+    loop-holds
+    entry-at-requires
+    clip-requires
+    sub-put-token
+    part-put-token-start
+    part-put-token-end
+    put-token-requires
+    add-requires
+    add-i
+    loop-less
+    loop-again
+    same-length
+    returns)
