@@ -8,7 +8,6 @@ use lib.ListN.{length, take, drop, getD}
 use Rattle.dogwood_rules.specs.Basic.{if_then_else_}
 use Rattle.dogwood_rules.specs.Utf8.{encode, decode}
 use Rattle.dogwood_rules.specs.Token.{Token, Kind, Whitespace, Comment, String, Identifier, Number, Symbol, Other}
-use Rattle.dogwood_formatter.specs.Shape.{Sound}
 use Rattle.dogwood_formatter.specs.declared.Entry.{Entry}
 
 -- the entry at word i
@@ -39,12 +38,11 @@ tokens text (k ∷ []) = []
 tokens text (k ∷ s ∷ []) = []
 tokens text (k ∷ s ∷ e ∷ ws) = tokenOf text (record { kind = k; start = s; end = e }) ∷ tokens text ws
 
--- an entry lies in the text, its token spells the bytes there, and is sound
+-- an entry lies in the text, and its token spells the bytes there
 pub record Held (text : List ℕ) (e : Entry) : Type 0 where
   pub ordered : e .start ≤ e .end
   pub inside : e .end ≤ length text
   pub spells : encode (tokenOf text e .text) ≡ bytesAt text e
-  pub sound : Sound (tokenOf text e)
 
 -- a table of whole entries, each held by the text
 unfoldable pub Holds : List ℕ → List ℕ → Type 0
