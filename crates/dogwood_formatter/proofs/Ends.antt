@@ -11,7 +11,7 @@ use borrow.Author.Tests.{eq-eqb, ne-eqb}
 use Rattle.dogwood_rules.specs.Basic.{if_then_else_, dropFront, dropBack, orDrop, runLength}
 use Rattle.dogwood_rules.specs.Token.{Token}
 use Rattle.dogwood_rules.specs.Tree.{blank}
-use Rattle.dogwood_formatter.specs.declared.Entry.{Entry}
+use Rattle.dogwood_formatter.specs.declared.table.Entry.{Entry}
 use Rattle.dogwood_formatter.specs.View.{tokenOf, tokens, Holds}
 use Rattle.dogwood_formatter.specs.Ends.{Whole, frontStep, frontLen, backStep, backLen, trimmedOf}
 use Rattle.dogwood_formatter.proofs.Tables.{words-at, holds-length, tokens-drop, tokens-take, token-blank}

@@ -15,9 +15,9 @@ use Rattle.dogwood_rules.specs.Utf8.{bytesOf, encode}
 use Rattle.dogwood_rules.specs.Token.{Token}
 use Rattle.dogwood_rules.specs.Tree.{blank, closer, shown, joined, flat, Run, nothing, single, group, Items, tokensOf, itemsOf, runOf, trimRun}
 use Rattle.dogwood_rules.specs.Layout.{Settings, column, walk, following, spaces, layout}
-use Rattle.dogwood_formatter.specs.declared.Entry.{Entry}
-use Rattle.dogwood_formatter.specs.declared.Page.{Page}
-use Rattle.dogwood_formatter.specs.declared.Span.{Span}
+use Rattle.dogwood_formatter.specs.declared.table.Entry.{Entry}
+use Rattle.dogwood_formatter.specs.declared.lay.Page.{Page}
+use Rattle.dogwood_formatter.specs.declared.span.Span.{Span}
 use Rattle.dogwood_formatter.specs.Measure.{spanAfter}
 use Rattle.dogwood_formatter.specs.Shape.{Shaped, Formed}
 use Rattle.dogwood_formatter.specs.View.{entryAt, tokenOf, tokens, Ready}

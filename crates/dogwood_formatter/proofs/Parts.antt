@@ -13,8 +13,8 @@ use Rattle.dogwood_rules.specs.Token.{Token}
 use Rattle.dogwood_rules.specs.Tree.{blank, opener, closer, shown, joined, flat, Run, nothing, single, group, Items, tokensOf, itemsOf, runOf, trimRun}
 use Rattle.dogwood_rules.specs.Layout.{empty}
 use Rattle.dogwood_rules.proofs.Spaced.{Solid}
-use Rattle.dogwood_formatter.specs.declared.Entry.{Entry}
-use Rattle.dogwood_formatter.specs.declared.Part.{Part}
+use Rattle.dogwood_formatter.specs.declared.table.Entry.{Entry}
+use Rattle.dogwood_formatter.specs.declared.run.Part.{Part}
 use Rattle.dogwood_formatter.specs.Shape.{Sound, blank-sound, word-sound, Shaped, shaped-nothing, shaped-single, shaped-group, Formed}
 use Rattle.dogwood_formatter.specs.View.{entryAt, tokenOf, tokens, Held, Holds, Ready}
 use Rattle.dogwood_formatter.specs.Ends.{Whole, frontLen, backLen, trimmedOf}

@@ -13,7 +13,7 @@ use Rattle.dogwood_rules.specs.Basic.{if_then_else_, same}
 use Rattle.dogwood_rules.specs.Utf8.{encode}
 use Rattle.dogwood_rules.specs.Token.{Token, Kind, Whitespace, Comment, String, Identifier, Number, Symbol, Other}
 use Rattle.dogwood_rules.specs.Tree.{blank, isWhitespace, shown, joined}
-use Rattle.dogwood_formatter.specs.declared.Entry.{Entry}
+use Rattle.dogwood_formatter.specs.declared.table.Entry.{Entry}
 use Rattle.dogwood_formatter.specs.View.{entryAt, kindOf, bytesAt, tokenOf, tokens, Held, Holds, Ready}
 use Rattle.dogwood_formatter.proofs.Bytes.{Ascii, same-encode, same-differ, encode-longer}
 

@@ -16,7 +16,7 @@ use Rattle.dogwood_rules.proofs.Scalars.{scalars-front}
 use Rattle.dogwood_rules.proofs.Decoding.{decode-sound}
 use Rattle.dogwood_rules.proofs.Spaced.{source}
 use Rattle.dogwood_rules.proofs.Chains.{tokenise-made}
-use Rattle.dogwood_formatter.specs.declared.Entry.{Entry}
+use Rattle.dogwood_formatter.specs.declared.table.Entry.{Entry}
 use Rattle.dogwood_formatter.specs.View.{kindOf, bytesAt, tokenOf, tokens, Held, Holds}
 use Rattle.dogwood_formatter.proofs.Bytes.{encode-append}
 use Rattle.dogwood_formatter.proofs.Tables.{holds-drop, holds-take, tokens-drop, tokens-take}

@@ -4,7 +4,7 @@ use mathlib.Core.Bool.{Bool, true, false}
 use mathlib.Core.List.{List, [], _∷_}
 use Prim.Native.Nat.{ℕ, zero, suc, _+_, _*_}
 use lib.Dec.{eqb}
-use Rattle.dogwood_formatter.specs.declared.Part.{Part}
+use Rattle.dogwood_formatter.specs.declared.run.Part.{Part}
 use lib.ListN.{length, drop}
 
 -- a table of whole entries

@@ -8,7 +8,7 @@ use lib.ListN.{length, take, drop, getD}
 use Rattle.dogwood_rules.specs.Basic.{if_then_else_}
 use Rattle.dogwood_rules.specs.Utf8.{encode, decode}
 use Rattle.dogwood_rules.specs.Token.{Token, Kind, Whitespace, Comment, String, Identifier, Number, Symbol, Other}
-use Rattle.dogwood_formatter.specs.declared.Entry.{Entry}
+use Rattle.dogwood_formatter.specs.declared.table.Entry.{Entry}
 
 -- the entry at word i
 abbrev pub entryAt : List ℕ → ℕ → Entry

@@ -11,39 +11,30 @@ use Rattle.pen.proofs.clip.Reads as clip-reads
 use Rattle.pen.proofs.put.Reads as put-reads
 use Rattle.pen.proofs.put_spaces.Reads as put-spaces-reads
 
--- src/lib.rt:77:9
 put-requires : tie.Need-put-requires
 put-requires c κs = search needs
 
--- src/lib.rt:78:9
 clip-requires : tie.Need-clip-requires
 clip-requires c κs = search needs
 
--- src/lib.rt:79:23
 sub-put-spaces : tie.Need-sub-put-spaces
 sub-put-spaces c = search needs
 
--- src/lib.rt:79:23
 part-put-spaces-start : tie.Need-part-put-spaces-start
 part-put-spaces-start c = search needs
 
--- src/lib.rt:79:23
 part-put-spaces-end : tie.Need-part-put-spaces-end
 part-put-spaces-end c = search needs
 
--- src/lib.rt:79:12
 put-spaces-requires : tie.Need-put-spaces-requires
 put-spaces-requires c κs = search needs
 
--- src/lib.rt:79:5
 add-requires : tie.Need-add-requires
 add-requires c κs = search needs
 
--- src/lib.rt:74:1
 same-length : tie.Need-same-length
 same-length c = search needs
 
--- src/lib.rt:74:1
 returns : tie.Need-returns
 returns c =
     let p = c .before .before .before .before .before in

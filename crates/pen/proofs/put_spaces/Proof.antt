@@ -18,23 +18,18 @@ Inv-loop out₀ n i₀ out i = (i ≤ n) × (i ≤ length out₀) × (length out
 abbrev μ-loop : tie.MeasureT-loop
 μ-loop out₀ n i₀ out i = n - i
 
--- src/lib.rt:63:5
 loop-holds : tie.Need-loop-holds Inv-loop μ-loop
 loop-holds c = (search needs, search needs, refl, sym (over-nil _))
 
--- src/lib.rt:67:9
 slice-write-out : tie.Need-slice-write-out Inv-loop μ-loop
 slice-write-out c = omega arith
 
--- src/lib.rt:68:9
 add-i : tie.Need-add-i Inv-loop μ-loop
 add-i c = omega arith
 
--- src/lib.rt:63:5
 loop-less : tie.Need-loop-less Inv-loop μ-loop
 loop-less c = omega arith
 
--- src/lib.rt:63:5
 loop-again : tie.Need-loop-again Inv-loop μ-loop
 loop-again c = (
   omega arith,
@@ -44,15 +39,12 @@ loop-again c = (
       rw e at (over-step (c .before .before .before .before .args .out .now) (replicate (c .before .before .before .before .args .n) 32) (c .before .before .loop .i) (rw length-replicate (omega arith)) (omega arith))),
 )
 
--- src/lib.rt:70:5
 clip-requires : tie.Need-clip-requires Inv-loop μ-loop
 clip-requires c κs = tt
 
--- src/lib.rt:59:1
 same-length : tie.Need-same-length Inv-loop μ-loop
 same-length c = c .before .before .loop .inv .2
 
--- src/lib.rt:59:1
 returns : tie.Need-returns Inv-loop μ-loop
 returns c =
     let at = c .before .before .loop in

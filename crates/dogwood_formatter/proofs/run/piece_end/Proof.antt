@@ -1,0 +1,31 @@
+use Rattle.dogwood_formatter.proofs.Loops.{piece-group, piece-one}
+use Rattle.dogwood_formatter.proofs.Tables.{held-at, entry-there}
+use native.Mathlib.Omega.{arith}
+use mathlib.Core.Path.{_≡_, refl, sym, ap, _∙_, subst}
+use borrow.Author.Needs.{needs}
+use Rattle.dogwood_formatter.proofs.run.piece_end.Statement.{statement}
+use Rattle.dogwood_formatter.proofs.run.piece_end.Tie as tie
+use Rattle.dogwood_formatter.proofs.run.piece_end.Reads as reads
+use Rattle.dogwood_formatter.proofs.run.piece_end.Lts as lts
+use Rattle.dogwood_formatter.proofs.table.entry_at.Reads as entry-at-reads
+use Rattle.dogwood_formatter.proofs.run.group_end.Reads as group-end-reads
+use Rattle.dogwood_formatter.proofs.table.opens.Reads as opens-reads
+
+entry-at-requires : tie.Need-entry-at-requires
+entry-at-requires c κs = entry-there _ _ 0 (c .before .before .pre .0 .holds) (c .before .before .pre .1)
+
+opens-requires : tie.Need-opens-requires
+opens-requires c κs = held-at _ _ 0 (c .before .before .before .pre .0 .holds) (c .before .before .before .pre .1) (c .entry-at .ensures)
+
+group-end-requires : tie.Need-group-end-requires
+group-end-requires c κs = c .before .before .before .before .before .pre .0
+
+returns : tie.Need-returns
+returns c = c .group-end .ensures ∙ piece-group _ _ (c .before .before .before .before .before .before .pre .1) (c .before .before .before .before .before .before .pre .0 .holds) (c .before .before .before .entry-at .ensures) (sym (c .before .before .opens .ensures) ∙ c .before .if1 .taken)
+
+returns-2 : tie.Need-returns-2
+returns-2 c = piece-one _ _ (c .before .before .before .before .before .pre .1) (c .before .before .before .before .before .pre .0 .holds) (c .before .before .entry-at .ensures) (sym (c .before .opens .ensures) ∙ c .if1 .left)
+
+pub piece-end-spec : {M : Type 1} → statement M
+piece-end-spec =
+    tie.close (tie.spec entry-at-requires opens-requires group-end-requires returns returns-2)

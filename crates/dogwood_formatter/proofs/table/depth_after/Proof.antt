@@ -1,0 +1,49 @@
+use Rattle.dogwood_formatter.proofs.Loops.{depth-open, depth-close, depth-same}
+use lib.ListN.{length, take, drop, getD}
+use native.Mathlib.Omega.{arith}
+use Prim.Native.Nat.{ℕ, suc, _+_, _-_, _*_, _≤_, _<_}
+use mathlib.Core.Path.{_≡_, refl, sym, ap, _∙_}
+use borrow.Author.Needs.{needs}
+use Rattle.dogwood_formatter.proofs.table.depth_after.Statement.{statement}
+use Rattle.dogwood_formatter.proofs.table.depth_after.Tie as tie
+use Rattle.dogwood_formatter.proofs.table.depth_after.Reads as reads
+use Rattle.dogwood_formatter.proofs.table.depth_after.Lts as lts
+use Rattle.dogwood_formatter.proofs.table.closes.Reads as closes-reads
+use Rattle.dogwood_formatter.proofs.table.opens.Reads as opens-reads
+
+opens-requires : tie.Need-opens-requires
+opens-requires c κs = search needs
+
+add-result : tie.Need-add-result
+add-result c = search needs
+
+returns : tie.Need-returns
+returns c = depth-open _ _ (sym (c .before .opens .ensures) ∙ c .if1 .taken)
+
+closes-requires : tie.Need-closes-requires
+closes-requires c κs = search needs
+
+returns-2 : tie.Need-returns-2
+returns-2 c = (let z : c .before .before .before .before .before .before .args .depth ≡ 0 = c .if3 .taken in (let y : 0 ≡ c .before .before .before .before .before .before .args .depth - 1 = omega arith in y) ∙ depth-close _ _ (sym (c .before .before .before .before .opens .ensures) ∙ c .before .before .before .if1 .left) (sym (c .before .before .closes .ensures) ∙ c .before .if2 .taken))
+
+sub-result : tie.Need-sub-result
+sub-result c = search needs
+
+returns-3 : tie.Need-returns-3
+returns-3 c = depth-close _ _ (sym (c .before .before .before .before .opens .ensures) ∙ c .before .before .before .if1 .left) (sym (c .before .before .closes .ensures) ∙ c .before .if2 .taken)
+
+returns-4 : tie.Need-returns-4
+returns-4 c = depth-same _ _ (sym (c .before .before .before .opens .ensures) ∙ c .before .before .if1 .left) (sym (c .before .closes .ensures) ∙ c .if2 .left)
+
+pub depth-after-spec : {M : Type 1} → statement M
+depth-after-spec =
+    tie.close
+    (tie.spec
+    opens-requires
+    add-result
+    returns
+    closes-requires
+    returns-2
+    sub-result
+    returns-3
+    returns-4)
