@@ -43,11 +43,11 @@ mul-le (suc i) zero d h = absurd (omega arith)
 mul-le (suc i) (suc n) d h = let p = mul-le i n d (omega arith) in omega arith
 
 -- no indent is wider than this
+pub margin-bound : (i d : ℕ) → i ≤ 1024 → d ≤ 4194304 → i * d ≤ 4294967296
+margin-bound i d h k = let m = mul-le i 1024 d h in omega arith
+
 pub indent-bound : (p : Page) (d words : ℕ) → Bounded p d words → p .indent * d ≤ 4294967296
-indent-bound p d words b =
-    let m = mul-le (p .indent) 1024 d (b .indent) in
-    let k = b .deep in
-    omega arith
+indent-bound p d words b = let k = b .deep in margin-bound (p .indent) d (b .indent) (omega arith)
 
 -- no table's tokens are wider than this
 pub width-bound : (text ws : List ℕ) (n : ℕ) → Ready text ws → {s : Span} → s ≡ spanAfter (record { width = 0; col = n }) (joined (tokens text ws)) → s .width ≤ 1099511627776
@@ -62,7 +62,7 @@ unfolding encode bytesOf
 encode-spaces zero = refl
 encode-spaces (suc n) = ap (λ (l : List ℕ). 32 ∷ l) (encode-spaces n)
 
-encode-line : (S : Settings) (d : ℕ) → encode (10 ∷ spaces S d) ≡ 10 ∷ replicate (S .indent * d) 32
+pub encode-line : (S : Settings) (d : ℕ) → encode (10 ∷ spaces S d) ≡ 10 ∷ replicate (S .indent * d) 32
 unfolding encode bytesOf spaces
 encode-line S d = ap (λ (l : List ℕ). 10 ∷ l) (encode-spaces (S .indent * d))
 

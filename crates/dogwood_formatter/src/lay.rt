@@ -23,8 +23,8 @@ ghost use Rattle.dogwood_rules.specs.Tree.{joined, runOf};
 ghost use Rattle.dogwood_formatter.specs.View.{tokens, Ready};
 ghost use Rattle.dogwood_formatter.specs.Measure.{spanAfter};
 ghost use Rattle.dogwood_formatter.specs.Shape.{Formed};
-ghost use Rattle.dogwood_rules.specs.Layout.{layout, walk};
-ghost use Rattle.dogwood_formatter.specs.Pieces.{settings, Bounded, Measured, OnePiece, Broken, PieceLaid, brokenText, itemsText, itemText};
+ghost use Rattle.dogwood_rules.specs.Layout.{walk};
+ghost use Rattle.dogwood_formatter.specs.Pieces.{settings, Bounded, LaidOut, Measured, OnePiece, Broken, PieceLaid, brokenText, itemsText, itemText};
 
 pub(crate) struct Page {
     pub(crate) width: usize,
@@ -40,7 +40,7 @@ pub(crate) struct Laid {
 // Lays a run out at a depth.
 pub(crate) fn lay_out(out: &mut [u8], text: &[u8], table: &[u32], page: Page, depth: usize) -> usize
     requires { ⌜ Ready (now text) (now table) × Formed (tokens (now text) (now table)) × Bounded page depth (length (now table)) ⌝ }
-    ensures { λ r. ⌜ Wrote (now (out .entry)) (encode (layout (settings page) depth (tokens (now (text .entry)) (now (table .entry))))) r (now (out .exit)) ⌝ }
+    ensures { λ r. ⌜ LaidOut (settings page) depth (tokens (now (text .entry)) (now (table .entry))) (now (out .entry)) r (now (out .exit)) ⌝ }
 {
     let t = trimmed(table);
     let a = t.start;

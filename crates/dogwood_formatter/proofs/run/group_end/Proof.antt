@@ -25,7 +25,8 @@ entry-at-requires : tie.Need-entry-at-requires Inv-loop μ-loop
 entry-at-requires c κs = entry-there _ _ _ (c .before .loop .inv .holds) (c .loop-test .taken)
 
 depth-after-requires : tie.Need-depth-after-requires Inv-loop μ-loop
-depth-after-requires c κs = (held-at _ _ _ (c .before .before .loop .inv .holds) (c .before .loop-test .taken) (c .entry-at .ensures), (let a = c .before .before .loop .inv .fits in let b = c .before .before .loop .inv .low in let d = c .before .before .before .before .before .pre .short in omega arith))
+depth-after-requires c κs =
+    (held-at _ _ _ (c .before .before .loop .inv .holds) (c .before .loop-test .taken) (c .entry-at .ensures), (let a = c .before .before .loop .inv .fits in let b = c .before .before .loop .inv .low in let d = c .before .before .before .before .before .pre .short in omega arith))
 
 add-i : tie.Need-add-i Inv-loop μ-loop
 add-i c = (let a = c .before .before .before .loop .inv .fits in let d = c .before .before .before .before .before .before .pre .short in omega arith)
@@ -34,13 +35,15 @@ loop-less : tie.Need-loop-less Inv-loop μ-loop
 loop-less c = (let a = c .before .before .before .loop-test .taken in omega arith)
 
 loop-again : tie.Need-loop-again Inv-loop μ-loop
-loop-again c = group-turn _ _ _ _ (c .before .before .before .before .loop .inv) (c .before .before .before .loop-test .taken) _ (c .before .before .entry-at .ensures) (c .before .depth-after .ensures) (c .if1 .left)
+loop-again c =
+    group-turn _ _ _ _ (c .before .before .before .before .loop .inv) (c .before .before .before .loop-test .taken) _ (c .before .before .entry-at .ensures) (c .before .depth-after .ensures) (c .if1 .left)
 
 returns : tie.Need-returns Inv-loop μ-loop
 returns c = group-end _ _ _ _ (c .before .loop .inv) (omega (arith, c .loop-test .left))
 
 returns-2 : tie.Need-returns-2 Inv-loop μ-loop
-returns-2 c = group-stop _ _ _ _ (c .before .before .before .before .loop .inv) (c .before .before .before .loop-test .taken) _ (c .before .before .entry-at .ensures) (c .before .depth-after .ensures) (c .if1 .taken)
+returns-2 c =
+    group-stop _ _ _ _ (c .before .before .before .before .loop .inv) (c .before .before .before .loop-test .taken) _ (c .before .before .entry-at .ensures) (c .before .depth-after .ensures) (c .if1 .taken)
 
 pub group-end-spec : {M : Type 1} → statement M
 group-end-spec =

@@ -31,28 +31,41 @@ cuts-before-requires : tie.Need-cuts-before-requires Inv-loop μ-loop
 cuts-before-requires c κs = held-at _ _ _ (c .before .before .loop .inv .holds) (c .before .loop-test .taken) (c .entry-at .ensures)
 
 returns : tie.Need-returns Inv-loop μ-loop
-returns c = item-before _ _ _ _ _ _ (c .before .before .before .before .loop .inv) (c .before .before .before .loop-test .taken) _ (c .before .before .entry-at .ensures) (ap (λ (b : Bool). not (c .before .before .before .before .loop .first) && b) (sym (c .before .cuts-before .ensures)) ∙ c .if1 .taken)
+returns c =
+    let start = c .before .before .before .before in
+    item-before _ _ _ _ _ _ (start .loop .inv) (c .before .before .before .loop-test .taken) _ (c .before .before .entry-at .ensures) (ap (λ (b : Bool). not (start .loop .first) && b) (sym (c .before .cuts-before .ensures)) ∙ c .if1 .taken)
 
 cuts-after-requires : tie.Need-cuts-after-requires Inv-loop μ-loop
 cuts-after-requires c κs = held-at _ _ _ (c .before .before .before .before .loop .inv .holds) (c .before .before .before .loop-test .taken) (c .before .before .entry-at .ensures)
 
 add-result : tie.Need-add-result Inv-loop μ-loop
-add-result c = (let a = c .before .before .before .before .before .before .loop .inv .fits in let d = c .before .before .before .before .before .before .before .before .before .pre .short in omega arith)
+add-result c =
+    let a = c .before .before .before .before .before .before .loop .inv .fits in
+    let d = c .before .before .before .before .before .before .before .before .before .pre .short in
+    omega arith
 
 returns-2 : tie.Need-returns-2 Inv-loop μ-loop
-returns-2 c = item-after _ _ _ _ _ _ (c .before .before .before .before .before .before .loop .inv) (c .before .before .before .before .before .loop-test .taken) _ (c .before .before .before .before .entry-at .ensures) (ap (λ (b : Bool). not (c .before .before .before .before .before .before .loop .first) && b) (sym (c .before .before .before .cuts-before .ensures)) ∙ c .before .before .if1 .left) (sym (c .before .cuts-after .ensures) ∙ c .if2 .taken)
+returns-2 c =
+    let start = c .before .before .before .before .before .before in
+    item-after _ _ _ _ _ _ (start .loop .inv) (c .before .before .before .before .before .loop-test .taken) _ (c .before .before .before .before .entry-at .ensures) (ap (λ (b : Bool). not (start .loop .first) && b) (sym (c .before .before .before .cuts-before .ensures)) ∙ c .before .before .if1 .left) (sym (c .before .cuts-after .ensures) ∙ c .if2 .taken)
 
 depth-after-requires : tie.Need-depth-after-requires Inv-loop μ-loop
-depth-after-requires c κs = (held-at _ _ _ (c .before .before .before .before .before .before .loop .inv .holds) (c .before .before .before .before .before .loop-test .taken) (c .before .before .before .before .entry-at .ensures), (let a = c .before .before .before .before .before .before .loop .inv .fits in let b = c .before .before .before .before .before .before .loop .inv .low in let d = c .before .before .before .before .before .before .before .before .before .pre .short in omega arith))
+depth-after-requires c κs =
+    (held-at _ _ _ (c .before .before .before .before .before .before .loop .inv .holds) (c .before .before .before .before .before .loop-test .taken) (c .before .before .before .before .entry-at .ensures), (let a = c .before .before .before .before .before .before .loop .inv .fits in let b = c .before .before .before .before .before .before .loop .inv .low in let d = c .before .before .before .before .before .before .before .before .before .pre .short in omega arith))
 
 add-i : tie.Need-add-i Inv-loop μ-loop
-add-i c = (let a = c .before .before .before .before .before .before .before .loop .inv .fits in let d = c .before .before .before .before .before .before .before .before .before .before .pre .short in omega arith)
+add-i c =
+    let a = c .before .before .before .before .before .before .before .loop .inv .fits in
+    let d = c .before .before .before .before .before .before .before .before .before .before .pre .short in
+    omega arith
 
 loop-less : tie.Need-loop-less Inv-loop μ-loop
 loop-less c = (let a = c .before .before .before .before .before .before .loop-test .taken in omega arith)
 
 loop-again : tie.Need-loop-again Inv-loop μ-loop
-loop-again c = item-turn _ _ _ _ _ _ (c .before .before .before .before .before .before .before .loop .inv) (c .before .before .before .before .before .before .loop-test .taken) _ (c .before .before .before .before .before .entry-at .ensures) (ap (λ (b : Bool). not (c .before .before .before .before .before .before .before .loop .first) && b) (sym (c .before .before .before .before .cuts-before .ensures)) ∙ c .before .before .before .if1 .left) (sym (c .before .before .cuts-after .ensures) ∙ c .before .if2 .left) (c .depth-after .ensures)
+loop-again c =
+    let start = c .before .before .before .before .before .before .before in
+    item-turn _ _ _ _ _ _ (start .loop .inv) (c .before .before .before .before .before .before .loop-test .taken) _ (c .before .before .before .before .before .entry-at .ensures) (ap (λ (b : Bool). not (start .loop .first) && b) (sym (c .before .before .before .before .cuts-before .ensures)) ∙ c .before .before .before .if1 .left) (sym (c .before .before .cuts-after .ensures) ∙ c .before .if2 .left) (c .depth-after .ensures)
 
 returns-3 : tie.Need-returns-3 Inv-loop μ-loop
 returns-3 c = item-end _ _ _ _ _ _ (c .before .loop .inv) (omega (arith, c .loop-test .left))

@@ -25,7 +25,10 @@ shared-slice-read-if1 : tie.Need-shared-slice-read-if1 Inv-loop μ-loop
 shared-slice-read-if1 c = search needs
 
 add-i : tie.Need-add-i Inv-loop μ-loop
-add-i c = (let a = lead-there _ _ (c .before .before .before .loop .inv) (c .before .before .loop-test .taken) in let g = c .before .before .before .before .good in search needs)
+add-i c =
+    let a = lead-there _ _ (c .before .before .before .loop .inv) (c .before .before .loop-test .taken) in
+    let g = c .before .before .before .before .good in
+    search needs
 
 loop-less : tie.Need-loop-less Inv-loop μ-loop
 loop-less c = (let a = c .before .before .loop-test .taken in omega arith)

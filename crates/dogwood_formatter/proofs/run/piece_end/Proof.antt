@@ -21,10 +21,14 @@ group-end-requires : tie.Need-group-end-requires
 group-end-requires c κs = c .before .before .before .before .before .pre .0
 
 returns : tie.Need-returns
-returns c = c .group-end .ensures ∙ piece-group _ _ (c .before .before .before .before .before .before .pre .1) (c .before .before .before .before .before .before .pre .0 .holds) (c .before .before .before .entry-at .ensures) (sym (c .before .before .opens .ensures) ∙ c .before .if1 .taken)
+returns c =
+    let start = c .before .before .before .before .before .before in
+    c .group-end .ensures ∙ piece-group _ _ (start .pre .1) (start .pre .0 .holds) (c .before .before .before .entry-at .ensures) (sym (c .before .before .opens .ensures) ∙ c .before .if1 .taken)
 
 returns-2 : tie.Need-returns-2
-returns-2 c = piece-one _ _ (c .before .before .before .before .before .pre .1) (c .before .before .before .before .before .pre .0 .holds) (c .before .before .entry-at .ensures) (sym (c .before .opens .ensures) ∙ c .if1 .left)
+returns-2 c =
+    let start = c .before .before .before .before .before in
+    piece-one _ _ (start .pre .1) (start .pre .0 .holds) (c .before .before .entry-at .ensures) (sym (c .before .opens .ensures) ∙ c .if1 .left)
 
 pub piece-end-spec : {M : Type 1} → statement M
 piece-end-spec =

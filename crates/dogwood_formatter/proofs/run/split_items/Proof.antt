@@ -50,7 +50,10 @@ item-end-requires : tie.Need-item-end-requires Inv-loop μ-loop Inv-sets μ-sets
 item-end-requires c κs = ready-rest _ _ _ (c .before .before .before .before .before .before .before .pre .0) (c .before .before .loop .inv .at .holds)
 
 add-filled : tie.Need-add-filled Inv-loop μ-loop Inv-sets μ-sets
-add-filled c = (let h = (item-here _ _ _ _ _ (c .before .before .before .loop .inv .at) (c .before .before .loop-test .taken) (c .item-end .ensures)) .fits in let s = c .before .before .before .before .before .before .before .before .pre .0 .short in omega arith)
+add-filled c =
+    let h = (item-here _ _ _ _ _ (c .before .before .before .loop .inv .at) (c .before .before .loop-test .taken) (c .item-end .ensures)) .fits in
+    let s = c .before .before .before .before .before .before .before .before .pre .0 .short in
+    omega arith
 
 mul-filled : tie.Need-mul-filled Inv-loop μ-loop Inv-sets μ-sets
 mul-filled c = search needs
@@ -65,19 +68,29 @@ part-filled-end : tie.Need-part-filled-end Inv-loop μ-loop Inv-sets μ-sets
 part-filled-end c = (item-here _ _ _ _ _ (c .before .before .before .loop .inv .at) (c .before .before .loop-test .taken) (c .item-end .ensures)) .fits
 
 filled-requires : tie.Need-filled-requires Inv-loop μ-loop Inv-sets μ-sets
-filled-requires c κs = (let h = (item-here _ _ _ _ _ (c .before .before .before .before .loop .inv .at) (c .before .before .before .loop-test .taken) (c .before .item-end .ensures)) in holds-whole _ _ (ready-part _ _ _ _ (h .count) (c .before .before .before .before .before .before .before .before .before .pre .0) (c .before .before .before .before .loop .inv .at .holds) (h .words) .holds))
+filled-requires c κs =
+    let h = (item-here _ _ _ _ _ (c .before .before .before .before .loop .inv .at) (c .before .before .before .loop-test .taken) (c .before .item-end .ensures)) in
+    holds-whole _ _ (ready-part _ _ _ _ (h .count) (c .before .before .before .before .before .before .before .before .before .pre .0) (c .before .before .before .before .loop .inv .at .holds) (h .words) .holds)
 
 add-found : tie.Need-add-found Inv-loop μ-loop Inv-sets μ-sets
 add-found c = (let f = c .before .before .before .before .before .loop .inv .few in let b = filled-le _ (c .filled .ensures) in omega arith)
 
 add-i : tie.Need-add-i Inv-loop μ-loop Inv-sets μ-sets
-add-i c = (let h = (item-here _ _ _ _ _ (c .before .before .before .before .before .before .loop .inv .at) (c .before .before .before .before .before .loop-test .taken) (c .before .before .before .item-end .ensures)) .fits in let s = c .before .before .before .before .before .before .before .before .before .before .before .pre .0 .short in omega arith)
+add-i c =
+    let h = (item-here _ _ _ _ _ (c .before .before .before .before .before .before .loop .inv .at) (c .before .before .before .before .before .loop-test .taken) (c .before .before .before .item-end .ensures)) .fits in
+    let s = c .before .before .before .before .before .before .before .before .before .before .before .pre .0 .short in
+    omega arith
 
 loop-less : tie.Need-loop-less Inv-loop μ-loop Inv-sets μ-sets
-loop-less c = (let h = (item-here _ _ _ _ _ (c .before .before .before .before .before .before .loop .inv .at) (c .before .before .before .before .before .loop-test .taken) (c .before .before .before .item-end .ensures)) in let a = h .some in let b = h .fits in omega arith)
+loop-less c =
+    let h = (item-here _ _ _ _ _ (c .before .before .before .before .before .before .loop .inv .at) (c .before .before .before .before .before .loop-test .taken) (c .before .before .before .item-end .ensures)) in
+    let a = h .some in
+    let b = h .fits in
+    omega arith
 
 loop-again : tie.Need-loop-again Inv-loop μ-loop Inv-sets μ-sets
-loop-again c = found-turn _ _ _ _ _ _ (c .before .before .before .before .before .before .loop .inv) (item-here _ _ _ _ _ (c .before .before .before .before .before .before .loop .inv .at) (c .before .before .before .before .before .loop-test .taken) (c .before .before .before .item-end .ensures)) (c .before .before .before .before .before .before .before .before .before .before .before .pre .0) (c .before .filled .ensures) (omega (arith, c .if1 .left))
+loop-again c =
+    found-turn _ _ _ _ _ _ (c .before .before .before .before .before .before .loop .inv) (item-here _ _ _ _ _ (c .before .before .before .before .before .before .loop .inv .at) (c .before .before .before .before .before .loop-test .taken) (c .before .before .before .item-end .ensures)) (c .before .before .before .before .before .before .before .before .before .before .before .pre .0) (c .before .filled .ensures) (omega (arith, c .if1 .left))
 
 add-set : tie.Need-add-set Inv-loop μ-loop Inv-sets μ-sets
 add-set c = (let a = c .before .before .sets-test .taken in omega arith)
@@ -86,13 +99,15 @@ sets-less : tie.Need-sets-less Inv-loop μ-loop Inv-sets μ-sets
 sets-less c = (let a = c .before .before .sets-test .taken in omega arith)
 
 sets-again : tie.Need-sets-again Inv-loop μ-loop Inv-sets μ-sets
-sets-again c = sets-turn _ _ (c .before .before .before .sets .inv) (c .before .before .sets-test .taken) (found-end _ _ _ _ _ (c .before .loop .inv) (omega (arith, c .loop-test .left)))
+sets-again c =
+    sets-turn _ _ (c .before .before .before .sets .inv) (c .before .before .sets-test .taken) (found-end _ _ _ _ _ (c .before .loop .inv) (omega (arith, c .loop-test .left)))
 
 returns : tie.Need-returns Inv-loop μ-loop Inv-sets μ-sets
 returns c = sets-end _ _ (c .before .sets .inv) (omega (arith, c .sets-test .left))
 
 returns-2 : tie.Need-returns-2 Inv-loop μ-loop Inv-sets μ-sets
-returns-2 c = sets-stop _ _ (c .before .before .before .before .before .before .before .before .sets .inv) (c .before .before .before .before .before .before .before .sets-test .taken) (found-two _ _ _ _ _ _ (c .before .before .before .before .before .before .loop .inv) (item-here _ _ _ _ _ (c .before .before .before .before .before .before .loop .inv .at) (c .before .before .before .before .before .loop-test .taken) (c .before .before .before .item-end .ensures)) (c .before .before .before .before .before .before .before .before .before .before .before .pre .0) (c .before .filled .ensures) (c .if1 .taken))
+returns-2 c =
+    sets-stop _ _ (c .before .before .before .before .before .before .before .before .sets .inv) (c .before .before .before .before .before .before .before .sets-test .taken) (found-two _ _ _ _ _ _ (c .before .before .before .before .before .before .loop .inv) (item-here _ _ _ _ _ (c .before .before .before .before .before .before .loop .inv .at) (c .before .before .before .before .before .loop-test .taken) (c .before .before .before .item-end .ensures)) (c .before .before .before .before .before .before .before .before .before .before .before .pre .0) (c .before .filled .ensures) (c .if1 .taken))
 
 pub split-items-spec : {M : Type 1} → statement M
 split-items-spec =

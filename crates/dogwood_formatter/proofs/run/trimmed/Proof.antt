@@ -29,10 +29,22 @@ solid-requires : tie.Need-solid-requires
 solid-requires c κs = whole-rest (c .before .before .before .args .table .now) (c .before .lead .result) (c .before .lead .ensures) (c .before .before .before .pre)
 
 add-t9 : tie.Need-add-t9
-add-t9 c = let ws = c .before .before .before .before .args .table .now in let a = c .before .before .lead .result in let f = front-fits ws in let b = back-fits (take (length ws - a) (drop a ws)) in let l = length-take (length ws - a) (drop a ws) in let d = length-drop a ws in let e = c .before .before .lead .ensures in let s = c .solid .ensures in let g = c .before .before .before .before .good in omega arith
+add-t9 c =
+    let start = c .before .before .before .before in
+    let ws = start .args .table .now in
+    let a = c .before .before .lead .result in
+    let f = front-fits ws in
+    let b = back-fits (take (length ws - a) (drop a ws)) in
+    let l = length-take (length ws - a) (drop a ws) in
+    let d = length-drop a ws in
+    let e = c .before .before .lead .ensures in
+    let s = c .solid .ensures in
+    let g = start .good in
+    omega arith
 
 returns : tie.Need-returns
-returns c = rest-back (c .before .before .before .before .args .table .now) (c .before .before .lead .result) (c .solid .result) (c .before .before .lead .ensures) (c .solid .ensures)
+returns c =
+    rest-back (c .before .before .before .before .args .table .now) (c .before .before .lead .result) (c .solid .result) (c .before .before .lead .ensures) (c .solid .ensures)
 
 pub trimmed-spec : {M : Type 1} → statement M
 trimmed-spec =

@@ -46,13 +46,19 @@ add-requires : tie.Need-add-requires Inv-loop μ-loop
 add-requires c κs = search needs
 
 add-i : tie.Need-add-i Inv-loop μ-loop
-add-i c = (let a = c .before .before .before .before .before .before .before .before .loop .inv .1 .fits in let b = c .before .before .before .before .before .before .before .loop-test .taken in let g = c .before .before .before .before .before .before .before .before .before .before .before .before .good in search needs)
+add-i c =
+    let a = c .before .before .before .before .before .before .before .before .loop .inv .1 .fits in
+    let b = c .before .before .before .before .before .before .before .loop-test .taken in
+    let g = c .before .before .before .before .before .before .before .before .before .before .before .before .good in
+    search needs
 
 loop-less : tie.Need-loop-less Inv-loop μ-loop
 loop-less c = (let b = c .before .before .before .before .before .before .before .loop-test .taken in omega arith)
 
 loop-again : tie.Need-loop-again Inv-loop μ-loop
-loop-again c = (let g = flat-turn _ _ _ _ _ _ (c .before .before .before .before .before .before .before .before .loop .inv .1) (c .before .before .before .before .before .before .before .loop-test .taken) (c .before .before .before .before .before .before .entry-at .ensures) (c .before .before .before .before .before .clip .ensures .place) (omega (arith, c .before .before .before .before .before .before .before .before .loop .inv .0, c .before .before .before .before .before .before .before .before .before .before .before .before .good .0 .1)) (c .before .before .before .put-token .ensures) (c .add .ensures .sum) in (wrote-length (g .wrote), g))
+loop-again c =
+    let g = flat-turn _ _ _ _ _ _ (c .before .before .before .before .before .before .before .before .loop .inv .1) (c .before .before .before .before .before .before .before .loop-test .taken) (c .before .before .before .before .before .before .entry-at .ensures) (c .before .before .before .before .before .clip .ensures .place) (omega (arith, c .before .before .before .before .before .before .before .before .loop .inv .0, c .before .before .before .before .before .before .before .before .before .before .before .before .good .0 .1)) (c .before .before .before .put-token .ensures) (c .add .ensures .sum) in
+    (wrote-length (g .wrote), g)
 
 same-length : tie.Need-same-length Inv-loop μ-loop
 same-length c = search needs

@@ -35,7 +35,8 @@ same-length : tie.Need-same-length
 same-length c = search needs
 
 returns : tie.Need-returns
-returns c = wrote-then (c .before .before .before .before .before .before .before .before .put-line .ensures) (c .before .before .before .before .before .clip .ensures .place) (let l = wrote-length (c .before .before .before .before .before .before .before .before .put-line .ensures) in let g = c .before .before .before .before .before .before .before .before .before .before .before .before .good .0 .1 in omega arith) (c .before .before .before .put-token .ensures) (c .add .ensures .sum)
+returns c =
+    wrote-then (c .before .before .before .before .before .before .before .before .put-line .ensures) (c .before .before .before .before .before .clip .ensures .place) (let l = wrote-length (c .before .before .before .before .before .before .before .before .put-line .ensures) in let g = c .before .before .before .before .before .before .before .before .before .before .before .before .good .0 .1 in omega arith) (c .before .before .before .put-token .ensures) (c .add .ensures .sum)
 
 pub put-closing-spec : {M : Type 1} → statement M
 put-closing-spec =

@@ -42,7 +42,8 @@ same-length-2 : tie.Need-same-length-2
 same-length-2 c = search needs
 
 returns-2 : tie.Need-returns-2
-returns-2 c = wrote-same (sym (shown-bytes (c .before .before .before .before .before .before .before .before .before .before .before .pre) (c .before .before .before .before .before .before .before .if1 .left))) (c .before .before .put-all .ensures)
+returns-2 c =
+    wrote-same (sym (shown-bytes (c .before .before .before .before .before .before .before .before .before .before .before .pre) (c .before .before .before .before .before .before .before .if1 .left))) (c .before .before .put-all .ensures)
 
 pub put-token-spec : {M : Type 1} → statement M
 put-token-spec =

@@ -25,7 +25,9 @@ entry-at-requires : tie.Need-entry-at-requires Inv-loop μ-loop
 entry-at-requires c κs = entry-there _ _ _ (c .before .loop .inv .holds) (c .loop-test .taken)
 
 past-token-requires : tie.Need-past-token-requires Inv-loop μ-loop
-past-token-requires c κs = (held-at _ _ _ (c .before .before .loop .inv .holds) (c .before .loop-test .taken) (c .entry-at .ensures), (let w = c .before .before .loop .inv .wide in let f = c .before .before .loop .inv .fits in let d = c .before .before .before .before .before .pre .0 .short in omega arith), (let w = c .before .before .loop .inv .far in let f = c .before .before .loop .inv .fits in let d = c .before .before .before .before .before .pre .0 .short in let e = c .before .before .before .before .before .pre .1 in omega arith))
+past-token-requires c κs =
+    let start = c .before .before .before .before .before in
+    (held-at _ _ _ (c .before .before .loop .inv .holds) (c .before .loop-test .taken) (c .entry-at .ensures), (let w = c .before .before .loop .inv .wide in let f = c .before .before .loop .inv .fits in let d = start .pre .0 .short in omega arith), (let w = c .before .before .loop .inv .far in let f = c .before .before .loop .inv .fits in let d = start .pre .0 .short in let e = start .pre .1 in omega arith))
 
 add-i : tie.Need-add-i Inv-loop μ-loop
 add-i c = (let a = c .before .before .before .loop .inv .fits in let d = c .before .before .before .before .before .before .pre .0 .short in omega arith)
@@ -34,7 +36,8 @@ loop-less : tie.Need-loop-less Inv-loop μ-loop
 loop-less c = (let a = c .before .before .loop-test .taken in omega arith)
 
 loop-again : tie.Need-loop-again Inv-loop μ-loop
-loop-again c = span-turn _ _ _ _ _ (c .before .before .before .loop .inv) (c .before .before .before .before .before .before .pre .0 .small) (c .before .before .loop-test .taken) (c .before .entry-at .ensures) (c .past-token .ensures)
+loop-again c =
+    span-turn _ _ _ _ _ (c .before .before .before .loop .inv) (c .before .before .before .before .before .before .pre .0 .small) (c .before .before .loop-test .taken) (c .before .entry-at .ensures) (c .past-token .ensures)
 
 returns : tie.Need-returns Inv-loop μ-loop
 returns c = span-end _ _ _ _ _ (c .before .loop .inv) (c .before .before .before .before .pre .0 .small) (omega (arith, c .loop-test .left))

@@ -23,7 +23,14 @@ shared-slice-read-past-byte : tie.Need-shared-slice-read-past-byte Inv-loop μ-l
 shared-slice-read-past-byte c = search needs
 
 past-byte-requires : tie.Need-past-byte-requires Inv-loop μ-loop
-past-byte-requires c κs = (let w = c .before .before .loop .inv .wide in let f = c .before .before .loop .inv .far in let i = c .before .before .loop .inv .fits in let p = c .before .before .before .before .pre in let g = c .before .before .before .before .good in (omega (arith, p .0, c .before .loop-test .taken, g .0 .1), omega (arith, p .1, c .before .loop-test .taken, g .0 .1)))
+past-byte-requires c κs =
+    let start = c .before .before .before .before in
+    let w = c .before .before .loop .inv .wide in
+    let f = c .before .before .loop .inv .far in
+    let i = c .before .before .loop .inv .fits in
+    let p = start .pre in
+    let g = start .good in
+    (omega (arith, p .0, c .before .loop-test .taken, g .0 .1), omega (arith, p .1, c .before .loop-test .taken, g .0 .1))
 
 add-i : tie.Need-add-i Inv-loop μ-loop
 add-i c = search needs

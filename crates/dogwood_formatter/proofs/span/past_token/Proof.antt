@@ -40,7 +40,8 @@ past-bytes-requires : tie.Need-past-bytes-requires
 past-bytes-requires c κs = (c .before .before .before .before .before .before .pre .1, c .before .before .before .before .before .before .pre .2)
 
 returns-2 : tie.Need-returns-2
-returns-2 c = c .past-bytes .ensures ∙ ap (pastBytes _) (sym (shown-bytes (c .before .before .before .before .before .before .before .pre .0) (c .before .before .before .before .if1 .left))) ∙ past-encode _ _
+returns-2 c =
+    c .past-bytes .ensures ∙ ap (pastBytes _) (sym (shown-bytes (c .before .before .before .before .before .before .before .pre .0) (c .before .before .before .before .if1 .left))) ∙ past-encode _ _
 
 pub past-token-spec : {M : Type 1} → statement M
 past-token-spec =

@@ -24,13 +24,17 @@ closes-requires : tie.Need-closes-requires
 closes-requires c κs = search needs
 
 returns-2 : tie.Need-returns-2
-returns-2 c = (let z : c .before .before .before .before .before .before .args .depth ≡ 0 = c .if3 .taken in (let y : 0 ≡ c .before .before .before .before .before .before .args .depth - 1 = omega arith in y) ∙ depth-close _ _ (sym (c .before .before .before .before .opens .ensures) ∙ c .before .before .before .if1 .left) (sym (c .before .before .closes .ensures) ∙ c .before .if2 .taken))
+returns-2 c =
+    let start = c .before .before .before .before .before .before in
+    let z : start .args .depth ≡ 0 = c .if3 .taken in
+    (let y : 0 ≡ start .args .depth - 1 = omega arith in y) ∙ depth-close _ _ (sym (c .before .before .before .before .opens .ensures) ∙ c .before .before .before .if1 .left) (sym (c .before .before .closes .ensures) ∙ c .before .if2 .taken)
 
 sub-result : tie.Need-sub-result
 sub-result c = search needs
 
 returns-3 : tie.Need-returns-3
-returns-3 c = depth-close _ _ (sym (c .before .before .before .before .opens .ensures) ∙ c .before .before .before .if1 .left) (sym (c .before .before .closes .ensures) ∙ c .before .if2 .taken)
+returns-3 c =
+    depth-close _ _ (sym (c .before .before .before .before .opens .ensures) ∙ c .before .before .before .if1 .left) (sym (c .before .before .closes .ensures) ∙ c .before .if2 .taken)
 
 returns-4 : tie.Need-returns-4
 returns-4 c = depth-same _ _ (sym (c .before .before .before .opens .ensures) ∙ c .before .before .if1 .left) (sym (c .before .closes .ensures) ∙ c .if2 .left)

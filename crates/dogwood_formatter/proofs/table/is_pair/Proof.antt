@@ -25,7 +25,9 @@ shared-slice-read-result-2 : tie.Need-shared-slice-read-result-2
 shared-slice-read-result-2 c = search needs
 
 returns-2 : tie.Need-returns-2
-returns-2 c = sym (token-pair (c .before .before .before .before .before .pre .0) _ (c .before .before .before .before .before .pre .1) (c .before .before .before .if1 .left))
+returns-2 c =
+    let start = c .before .before .before .before .before in
+    sym (token-pair (start .pre .0) _ (start .pre .1) (c .before .before .before .if1 .left))
 
 pub is-pair-spec : {M : Type 1} → statement M
 is-pair-spec =
