@@ -1,7 +1,7 @@
 -- White space at the ends of a table: the loops, and the tokens that are left.
-use mathlib.Core.Path.{_≡_, refl, sym, _∙_, ap, subst}
+use mathlib.Core.Path.{_≡_, refl, sym, _∙_, ap}
 use mathlib.Core.Bool.{Bool, true, false}
-use mathlib.Core.List.{List, [], _∷_, _++_, append-nil, append-assoc}
+use mathlib.Core.List.{List, [], _∷_, _++_}
 use Prim.Native.Nat.{ℕ, zero, suc, _+_, _-_, _*_, _<_, _≤_}
 use native.Mathlib.Omega.{arith}
 use lib.Dec.{eqb}
@@ -9,9 +9,7 @@ use lib.ListN.{length, take, drop, getD, length-drop, drop-of-length-le}
 use lib.Seq.{take-all, take-append-seam}
 use borrow.Author.Tests.{eq-eqb, ne-eqb}
 use Rattle.dogwood_rules.specs.Basic.{if_then_else_, dropFront, dropBack, orDrop, runLength}
-use Rattle.dogwood_rules.specs.Token.{Token}
 use Rattle.dogwood_rules.specs.Tree.{blank}
-use Rattle.dogwood_formatter.specs.declared.table.Entry.{Entry}
 use Rattle.dogwood_formatter.specs.View.{tokenOf, tokens, Holds}
 use Rattle.dogwood_formatter.specs.Ends.{Whole, frontStep, frontLen, backStep, backLen, trimmedOf}
 use Rattle.dogwood_formatter.proofs.Tables.{words-at, holds-length, tokens-drop, tokens-take, token-blank}

@@ -1,7 +1,7 @@
 -- What each writer of the layout gives: a run, an item, a piece, a broken group.
 use mathlib.Core.Path.{_≡_, refl, sym, _∙_, ap, subst}
 use mathlib.Core.Bool.{Bool, true, false, _||_}
-use mathlib.Core.List.{List, [], _∷_, _++_, append-nil, append-assoc}
+use mathlib.Core.List.{List, [], _∷_, _++_, append-assoc}
 use Prim.Native.Nat.{ℕ, zero, suc, _+_, _-_, _*_, _/_, _<_, _≤_}
 use native.Mathlib.Numerals.{add-one}
 use native.Mathlib.Omega.{arith}
@@ -10,10 +10,10 @@ use lib.ListN.{length, take, drop, replicate, length-append}
 use borrow.Author.Tests.{eqb-true, eqb-false, leb-true, leb-false, le-leb, lt-leb}
 use Rattle.pen.specs.Over.{Wrote}
 use Rattle.pen.proofs.Laws.{wrote-same}
-use Rattle.dogwood_rules.specs.Basic.{if_then_else_, dropBack, trim, runLength}
+use Rattle.dogwood_rules.specs.Basic.{if_then_else_, trim, runLength}
 use Rattle.dogwood_rules.specs.Utf8.{bytesOf, encode}
 use Rattle.dogwood_rules.specs.Token.{Token}
-use Rattle.dogwood_rules.specs.Tree.{blank, closer, shown, joined, flat, Run, nothing, single, group, Items, tokensOf, itemsOf, runOf, trimRun}
+use Rattle.dogwood_rules.specs.Tree.{blank, shown, joined, Run, nothing, group, Items, tokensOf, itemsOf, runOf, trimRun}
 use Rattle.dogwood_rules.specs.Layout.{Settings, column, walk, following, spaces, layout}
 use Rattle.dogwood_formatter.specs.declared.table.Entry.{Entry}
 use Rattle.dogwood_formatter.specs.declared.lay.Page.{Page}
@@ -23,7 +23,7 @@ use Rattle.dogwood_formatter.specs.Shape.{Shaped, Formed}
 use Rattle.dogwood_formatter.specs.View.{entryAt, tokenOf, tokens, Ready}
 use Rattle.dogwood_formatter.specs.Ends.{frontLen}
 use Rattle.dogwood_formatter.specs.Choice.{filledOf}
-use Rattle.dogwood_formatter.specs.Pieces.{settings, Bounded, Measured, OnePiece, one-token, one-group, Broken, broken-group, pieceText, PieceLaid, brokenText, itemText, itemsText}
+use Rattle.dogwood_formatter.specs.Pieces.{Bounded, Measured, OnePiece, one-token, one-group, Broken, broken-group, pieceText, PieceLaid, brokenText, itemText, itemsText}
 use Rattle.dogwood_formatter.proofs.Bytes.{encode-append}
 use Rattle.dogwood_formatter.proofs.Bounds.{length-part}
 use Rattle.dogwood_formatter.proofs.Tables.{holds-length, part-rest, ready-part}

@@ -1,33 +1,33 @@
 -- A layout is so short that no count of its bytes reaches the cap.
 use mathlib.Core.Path.{_≡_, refl, sym, _∙_, ap, subst}
 use mathlib.Core.Bool.{Bool, true, false}
-use mathlib.Core.List.{List, [], _∷_, _++_, append-nil, append-assoc}
+use mathlib.Core.List.{List, [], _∷_, _++_}
 use Prim.Native.Nat.{ℕ, zero, suc, _+_, _-_, _*_, _<_, _≤_}
 use native.Mathlib.Omega.{arith}
 use lib.Dec.{eqb, leb}
-use lib.ListN.{length, take, drop, replicate, length-append, length-replicate}
+use lib.ListN.{length, length-append, length-replicate}
 use borrow.Author.Tests.{eqb-true, eqb-false}
 use Rattle.pen.specs.Over.{cap, Wrote}
 use Rattle.dogwood_rules.specs.Basic.{if_then_else_, trim, runLength}
 use Rattle.dogwood_rules.specs.Utf8.{bytesOf, encode}
 use Rattle.dogwood_rules.specs.Token.{Token}
-use Rattle.dogwood_rules.specs.Tree.{blank, shown, joined, Run, nothing, single, group, Items, end, item, tokensOf, itemsOf, runOf, addItem, tidy, trimRun, trimLeft, trimRight}
+use Rattle.dogwood_rules.specs.Tree.{blank, shown, joined, Run, nothing, single, group, Items, tokensOf, runOf, addItem, tidy, trimRun, trimLeft, trimRight}
 use Rattle.dogwood_rules.specs.Layout.{Settings, column, walk, lines, following, spaces, layout}
 use Rattle.dogwood_rules.proofs.Laid.{trimmed}
 use Rattle.dogwood_formatter.specs.declared.table.Entry.{Entry}
 use Rattle.dogwood_formatter.specs.declared.lay.Page.{Page}
-use Rattle.dogwood_formatter.specs.Shape.{Shaped, shaped-nothing, shaped-single, shaped-group, Formed}
+use Rattle.dogwood_formatter.specs.Shape.{Shaped, Formed}
 use Rattle.dogwood_formatter.specs.View.{tokenOf, tokens, Held, Holds, Ready}
 use Rattle.dogwood_formatter.specs.Choice.{cutsOf, chosen}
-use Rattle.dogwood_formatter.specs.Pieces.{settings, Bounded, LaidOut, eachLine, itemText, itemsText, pieceText, brokenText}
+use Rattle.dogwood_formatter.specs.Pieces.{settings, Bounded, LaidOut, eachLine, itemText, itemsText, pieceText}
 use Rattle.dogwood_formatter.proofs.Bytes.{encode-append}
 use Rattle.dogwood_formatter.proofs.Tables.{bytes-length, holds-length, shown-blank, shown-bytes}
 use Rattle.dogwood_formatter.proofs.Shapes.{run-of, formed-of, formed-from, opener-word, closer-word}
 use Rattle.dogwood_formatter.proofs.Trims.{trim-shaped, trim-tokens}
 use Rattle.dogwood_formatter.proofs.Walks.{shown-text, layout-trimmed}
-use Rattle.dogwood_formatter.proofs.Items.{First, first-item}
-use Rattle.dogwood_formatter.proofs.Splits.{item-full, no-tokens}
-use Rattle.dogwood_formatter.proofs.Lays.{lines-add, one-some, Piece, first-piece}
+use Rattle.dogwood_formatter.proofs.Items.{first-item}
+use Rattle.dogwood_formatter.proofs.Splits.{item-full}
+use Rattle.dogwood_formatter.proofs.Lays.{lines-add, one-some, first-piece}
 use Rattle.dogwood_formatter.proofs.Groups.{item-none, item-line, broken-made, Outcome, stays, breaks, outcome}
 use Rattle.dogwood_formatter.proofs.Laying.{margin-bound, encode-line}
 

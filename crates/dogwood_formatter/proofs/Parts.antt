@@ -1,28 +1,26 @@
 -- A table without the white space at its ends, and a group without its brackets.
 use mathlib.Core.Path.{_≡_, refl, sym, _∙_, ap, subst}
 use mathlib.Core.Bool.{Bool, true, false}
-use mathlib.Core.List.{List, [], _∷_, _++_, append-nil, append-assoc}
-use Prim.Native.Nat.{ℕ, zero, suc, _+_, _-_, _*_, _<_, _≤_}
+use mathlib.Core.List.{List, [], _∷_, _++_}
+use Prim.Native.Nat.{ℕ, suc, _+_, _-_, _*_, _<_, _≤_}
 use native.Mathlib.Omega.{arith}
-use lib.ListN.{length, take, drop, getD, length-append, length-take, length-drop}
+use lib.ListN.{length, take, drop, length-append, length-take, length-drop}
 use lib.Seq.{take-append-seam, drop-append-seam, drop-drop}
-use borrow.Author.Tests.{ltb-true, ltb-false}
 use lib.Dec.{ltb}
-use Rattle.dogwood_rules.specs.Basic.{if_then_else_, dropFront, dropBack, trim, runLength}
+use borrow.Author.Tests.{ltb-true, ltb-false}
+use Rattle.dogwood_rules.specs.Basic.{if_then_else_, dropBack, trim, runLength}
 use Rattle.dogwood_rules.specs.Token.{Token}
-use Rattle.dogwood_rules.specs.Tree.{blank, opener, closer, shown, joined, flat, Run, nothing, single, group, Items, tokensOf, itemsOf, runOf, trimRun}
+use Rattle.dogwood_rules.specs.Tree.{blank, opener, closer, shown, joined, flat, Run, nothing, group, tokensOf, itemsOf, runOf, trimRun}
 use Rattle.dogwood_rules.specs.Layout.{empty}
-use Rattle.dogwood_rules.proofs.Spaced.{Solid}
-use Rattle.dogwood_formatter.specs.declared.table.Entry.{Entry}
 use Rattle.dogwood_formatter.specs.declared.run.Part.{Part}
 use Rattle.dogwood_formatter.specs.Shape.{Sound, blank-sound, word-sound, Shaped, shaped-nothing, shaped-single, shaped-group, Formed}
-use Rattle.dogwood_formatter.specs.View.{entryAt, tokenOf, tokens, Held, Holds, Ready}
-use Rattle.dogwood_formatter.specs.Ends.{Whole, frontLen, backLen, trimmedOf}
+use Rattle.dogwood_formatter.specs.View.{entryAt, tokenOf, tokens, Holds, Ready}
+use Rattle.dogwood_formatter.specs.Ends.{frontLen, backLen, trimmedOf}
 use Rattle.dogwood_formatter.specs.Choice.{filledOf}
-use Rattle.dogwood_formatter.specs.Pieces.{OnePiece, one-token, one-group, Broken, broken-group}
-use Rattle.dogwood_formatter.proofs.Tables.{entry-there, holds-length, holds-drop, held-at, ready-part, tokens-at, tokens-drop, tokens-take}
+use Rattle.dogwood_formatter.specs.Pieces.{OnePiece, one-token, one-group}
+use Rattle.dogwood_formatter.proofs.Tables.{holds-length, holds-drop, ready-part, tokens-at, tokens-drop, tokens-take}
 use Rattle.dogwood_formatter.proofs.Ends.{front-run, front-fits, back-fits, front-tokens, back-tokens}
-use Rattle.dogwood_formatter.proofs.Shapes.{formed-from, run-from, opener-word, closer-word}
+use Rattle.dogwood_formatter.proofs.Shapes.{formed-from, run-from, opener-word}
 use Rattle.dogwood_formatter.proofs.Trims.{trim-shaped, trim-tokens, trim-kept}
 use Rattle.dogwood_formatter.proofs.Splits.{no-tokens, trim-some, trim-none}
 use Rattle.dogwood_formatter.proofs.Walks.{append-empty, shown-space, shown-text}

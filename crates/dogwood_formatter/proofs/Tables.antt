@@ -1,18 +1,18 @@
 -- Laws of the view of a table: its parts, and what an entry's token says.
 use mathlib.Core.Path.{_≡_, refl, sym, _∙_, ap, subst}
-use mathlib.Core.Bool.{Bool, true, false, not, _&&_, _||_}
-use mathlib.Core.List.{List, [], _∷_, _++_, append-nil, append-assoc}
+use mathlib.Core.Bool.{Bool, true, false, _&&_}
+use mathlib.Core.List.{List, [], _∷_}
 use Prim.Native.Nat.{ℕ, zero, suc, _+_, _-_, _*_, _<_, _≤_}
 use native.Mathlib.Numerals.{add-one, add-two, add-three}
 use native.Mathlib.Omega.{arith}
-use lib.Dec.{leb, ltb, eqb}
-use lib.ListN.{length, take, drop, getD, length-append, length-take, length-drop, drop-of-length-le}
-use lib.Seq.{drop-cons, take-all, take-nil, drop-nil, take-take, drop-drop}
+use lib.Dec.{eqb}
+use lib.ListN.{length, take, drop, getD, length-take, length-drop, drop-of-length-le}
+use lib.Seq.{drop-cons, take-all, take-nil, drop-nil, drop-drop}
 use borrow.Author.Tests.{eq-eqb, ne-eqb}
 use Rattle.dogwood_rules.specs.Basic.{if_then_else_, same}
 use Rattle.dogwood_rules.specs.Utf8.{encode}
-use Rattle.dogwood_rules.specs.Token.{Token, Kind, Whitespace, Comment, String, Identifier, Number, Symbol, Other}
-use Rattle.dogwood_rules.specs.Tree.{blank, isWhitespace, shown, joined}
+use Rattle.dogwood_rules.specs.Token.{Token, Whitespace, Comment, String, Identifier, Number, Symbol, Other}
+use Rattle.dogwood_rules.specs.Tree.{blank, isWhitespace, shown}
 use Rattle.dogwood_formatter.specs.declared.table.Entry.{Entry}
 use Rattle.dogwood_formatter.specs.View.{entryAt, kindOf, bytesAt, tokenOf, tokens, Held, Holds, Ready}
 use Rattle.dogwood_formatter.proofs.Bytes.{Ascii, same-encode, same-differ, encode-longer}

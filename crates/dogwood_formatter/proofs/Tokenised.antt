@@ -2,16 +2,16 @@
 use mathlib.Core.Path.{_≡_, refl, sym, _∙_, ap, subst}
 use mathlib.Core.Bool.{Bool, true, false}
 use mathlib.Core.List.{List, [], _∷_, _++_, append-nil, append-assoc}
-use Prim.Native.Nat.{ℕ, zero, suc, _+_, _-_, _*_, _/_, _<_, _≤_}
+use Prim.Native.Nat.{ℕ, _+_, _-_, _*_, _/_}
 use native.Mathlib.Omega.{arith}
 use lib.Dec.{ltb}
 use lib.ListN.{length, take, drop, length-append}
 use lib.Seq.{take-append-seam, drop-append-seam}
 use Rattle.dogwood_rules.specs.Basic.{if_then_else_}
 use Rattle.dogwood_rules.specs.Utf8.{size, later, bytesOf, encode, byteLength, decode}
-use Rattle.dogwood_rules.specs.Token.{Token, Kind, Whitespace, Comment, String, Identifier, Number, Symbol, Other, kindNumber, tokenise, Placed, placed}
+use Rattle.dogwood_rules.specs.Token.{Token, Kind, Whitespace, Comment, String, Identifier, Number, Symbol, Other, kindNumber, tokenise, placed}
 use Rattle.dogwood_rules.specs.Answer.{wordsOf}
-use Rattle.dogwood_rules.proofs.RoundTrip.{AllScalar, scalars-end, scalars-more, decode-encode}
+use Rattle.dogwood_rules.proofs.RoundTrip.{AllScalar, scalars-more, decode-encode}
 use Rattle.dogwood_rules.proofs.Scalars.{scalars-front}
 use Rattle.dogwood_rules.proofs.Decoding.{decode-sound}
 use Rattle.dogwood_rules.proofs.Spaced.{source}

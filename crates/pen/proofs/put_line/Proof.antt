@@ -1,15 +1,8 @@
 use native.Mathlib.Omega.{arith}
-use mathlib.Core.List.{[], _∷_}
-use Rattle.pen.proofs.Laws.{wrote-then}
 use borrow.Author.Needs.{needs}
+use Rattle.pen.proofs.Laws.{wrote-then}
 use Rattle.pen.proofs.put_line.Statement.{statement}
 use Rattle.pen.proofs.put_line.Tie as tie
-use Rattle.pen.proofs.put_line.Reads as reads
-use Rattle.pen.proofs.put_line.Lts as lts
-use Rattle.pen.proofs.add.Reads as add-reads
-use Rattle.pen.proofs.clip.Reads as clip-reads
-use Rattle.pen.proofs.put.Reads as put-reads
-use Rattle.pen.proofs.put_spaces.Reads as put-spaces-reads
 
 put-requires : tie.Need-put-requires
 put-requires c κs = search needs

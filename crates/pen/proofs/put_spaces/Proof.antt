@@ -1,16 +1,13 @@
 use mathlib.Core.Path.{_≡_, refl, sym, ap, _∙_}
-use Prim.Native.Nat.{ℕ, _+_, _-_, _≤_, _<_}
+use Prim.Native.Nat.{ℕ, _-_, _≤_}
 use native.Mathlib.Omega.{arith}
-use borrow.Author.Needs.{needs}
-use lib.ListN.{length, take, drop, set, getD, replicate, length-set, length-replicate, getD-replicate}
+use lib.ListN.{length, take, getD, replicate, length-set, length-replicate, getD-replicate}
 use lib.Seq.{take-all}
+use borrow.Author.Needs.{needs}
 use Rattle.pen.specs.Over.{over}
-use Rattle.pen.proofs.Laws.{length-over, over-nil, over-step, over-clip, cases}
+use Rattle.pen.proofs.Laws.{over-nil, over-step, over-clip, cases}
 use Rattle.pen.proofs.put_spaces.Statement.{statement}
 use Rattle.pen.proofs.put_spaces.Tie as tie
-use Rattle.pen.proofs.put_spaces.Reads as reads
-use Rattle.pen.proofs.put_spaces.Lts as lts
-use Rattle.pen.proofs.clip.Reads as clip-reads
 
 abbrev Inv-loop : tie.InvT-loop
 Inv-loop out₀ n i₀ out i = (i ≤ n) × (i ≤ length out₀) × (length out ≡ length out₀) × (out ≡ over out₀ (take i (replicate n 32)))

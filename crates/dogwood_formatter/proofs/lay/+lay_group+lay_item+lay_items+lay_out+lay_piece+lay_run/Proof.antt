@@ -1,31 +1,25 @@
-use Rattle.dogwood_formatter.proofs.Lengths.{laid-out, laid-wrote}
+use mathlib.Core.Path.{_≡_, refl, sym, ap, subst}
+use Prim.Native.Nat.{ℕ, _+_, _-_, _*_, _≤_, _<_}
+use native.Mathlib.Omega.{arith}
+use lib.ListN.{length-take, length-drop, length, drop}
+use borrow.Author.Needs.{needs}
+use borrow.Fn.Kinds.{In}
+use borrow.Fn.PlainCycle.{Measures, is, falls, and}
 use Rattle.pen.specs.Over.{cap}
 use Rattle.pen.proofs.Laws.{wrote-then, wrote-same, wrote-nil, wrote-length}
 use Rattle.dogwood_rules.specs.Utf8.{encode}
-use Rattle.dogwood_formatter.specs.Pieces.{OnePiece}
-use Rattle.dogwood_formatter.proofs.Tables.{held-at}
-use Rattle.dogwood_formatter.proofs.Bounds.{bounded-less}
-use Rattle.dogwood_formatter.proofs.Shapes.{run-from}
+use Rattle.dogwood_formatter.specs.Pieces.{OnePiece, settings}
+use Rattle.dogwood_formatter.specs.Ends.{Whole}
+use Rattle.dogwood_formatter.proofs.Lengths.{laid-out, laid-wrote}
+use Rattle.dogwood_formatter.proofs.Tables.{held-at, ready-rest, ready-part, part-rest}
+use Rattle.dogwood_formatter.proofs.Bounds.{bounded-less, length-part, bounded-part, rest-some, width-le}
+use Rattle.dogwood_formatter.proofs.Shapes.{run-from, formed-from}
 use Rattle.dogwood_formatter.proofs.Groups.{joined-bound}
 use Rattle.dogwood_formatter.proofs.Parts.{trimmed-here, trimmed-formed, trimmed-length, group-here, group-formed}
 use Rattle.dogwood_formatter.proofs.Laying.{indent-bound, width-bound, run-measured, run-flat, run-walked, item-nothing, item-written, piece-laid, piece-single, group-stays, group-breaks, group-laid, broken-here, group-written, carried, piece-bound}
-use lib.ListN.{length-take, length-drop}
 use Rattle.dogwood_formatter.proofs.Ends.{holds-whole}
-use Rattle.dogwood_formatter.specs.Ends.{Whole}
 use Rattle.dogwood_formatter.proofs.Splits.{item-here}
-use Rattle.dogwood_formatter.proofs.Tables.{ready-rest, ready-part, part-rest}
-use Rattle.dogwood_formatter.proofs.Shapes.{formed-from}
-use Rattle.dogwood_formatter.proofs.Bounds.{length-part, bounded-part, rest-some, width-le}
-use mathlib.Core.Path.{_≡_, refl, sym, ap, _∙_, subst}
-use mathlib.Core.List.{List, [], _∷_, _++_}
-use native.Mathlib.Omega.{arith}
-use borrow.Author.Needs.{needs}
-use lib.ListN.{length, take, drop, getD}
 use Rattle.dogwood_formatter.proofs.Lays.{run-rest, LinesAt, lines-start, lines-turn, lines-end, RunAt, run-start, run-turn, run-end, piece-here}
-use Rattle.dogwood_formatter.specs.Pieces.{settings}
-use Prim.Native.Nat.{ℕ, suc, _+_, _-_, _*_, _≤_, _<_}
-use borrow.Fn.Kinds.{In}
-use borrow.Fn.PlainCycle.{Measures, is, falls, and}
 use Rattle.dogwood_formatter.proofs.lay.lay_group.Reads as lay-group
 use Rattle.dogwood_formatter.proofs.lay.lay_group.Kinds as lay-group-kinds
 use Rattle.dogwood_formatter.proofs.lay.+lay_group+lay_item+lay_items+lay_out+lay_piece+lay_run.Lts-lay_group as lay-group-lts

@@ -1,14 +1,8 @@
-use Rattle.dogwood_formatter.proofs.Splits.{filled-yes, filled-no}
-use lib.ListN.{length, take, drop, getD}
 use native.Mathlib.Omega.{arith}
-use Prim.Native.Nat.{ℕ, suc, _+_, _-_, _*_, _≤_, _<_}
-use mathlib.Core.Path.{_≡_, refl, sym, ap, _∙_, subst}
 use borrow.Author.Needs.{needs}
+use Rattle.dogwood_formatter.proofs.Splits.{filled-yes, filled-no}
 use Rattle.dogwood_formatter.proofs.run.filled.Statement.{statement}
 use Rattle.dogwood_formatter.proofs.run.filled.Tie as tie
-use Rattle.dogwood_formatter.proofs.run.filled.Reads as reads
-use Rattle.dogwood_formatter.proofs.run.filled.Lts as lts
-use Rattle.dogwood_formatter.proofs.run.lead.Reads as lead-reads
 
 lead-requires : tie.Need-lead-requires
 lead-requires c κs = search needs

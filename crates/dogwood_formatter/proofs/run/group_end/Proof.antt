@@ -1,16 +1,10 @@
+use Prim.Native.Nat.{_-_}
+use native.Mathlib.Omega.{arith}
+use lib.ListN.{length}
 use Rattle.dogwood_formatter.proofs.Loops.{GroupAt, group-start, group-turn, group-stop, group-end}
 use Rattle.dogwood_formatter.proofs.Tables.{held-at, entry-there}
-use lib.ListN.{length, take, drop, getD}
-use borrow.Author.Needs.{needs}
-use native.Mathlib.Omega.{arith}
-use Prim.Native.Nat.{ℕ, suc, _+_, _-_, _*_, _≤_, _<_}
-use mathlib.Core.Path.{_≡_, refl, sym, ap, _∙_}
 use Rattle.dogwood_formatter.proofs.run.group_end.Statement.{statement}
 use Rattle.dogwood_formatter.proofs.run.group_end.Tie as tie
-use Rattle.dogwood_formatter.proofs.run.group_end.Reads as reads
-use Rattle.dogwood_formatter.proofs.run.group_end.Lts as lts
-use Rattle.dogwood_formatter.proofs.table.depth_after.Reads as depth-after-reads
-use Rattle.dogwood_formatter.proofs.table.entry_at.Reads as entry-at-reads
 
 abbrev Inv-loop : tie.InvT-loop
 Inv-loop text table depth₀ i₀ depth i = GroupAt text table depth i

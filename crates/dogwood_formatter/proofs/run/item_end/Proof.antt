@@ -1,19 +1,12 @@
+use mathlib.Core.Bool.{Bool, not, _&&_}
+use mathlib.Core.Path.{sym, ap, _∙_}
+use Prim.Native.Nat.{_-_}
+use native.Mathlib.Omega.{arith}
+use lib.ListN.{length}
 use Rattle.dogwood_formatter.proofs.Loops.{ItemAt, item-start, item-before, item-after, item-turn, item-end}
 use Rattle.dogwood_formatter.proofs.Tables.{held-at, entry-there}
-use mathlib.Core.Bool.{Bool, not, _&&_}
-use lib.ListN.{length, take, drop, getD}
-use borrow.Author.Needs.{needs}
-use native.Mathlib.Omega.{arith}
-use Prim.Native.Nat.{ℕ, suc, _+_, _-_, _*_, _≤_, _<_}
-use mathlib.Core.Path.{_≡_, refl, sym, ap, _∙_}
 use Rattle.dogwood_formatter.proofs.run.item_end.Statement.{statement}
 use Rattle.dogwood_formatter.proofs.run.item_end.Tie as tie
-use Rattle.dogwood_formatter.proofs.run.item_end.Reads as reads
-use Rattle.dogwood_formatter.proofs.run.item_end.Lts as lts
-use Rattle.dogwood_formatter.proofs.table.cuts_after.Reads as cuts-after-reads
-use Rattle.dogwood_formatter.proofs.table.cuts_before.Reads as cuts-before-reads
-use Rattle.dogwood_formatter.proofs.table.depth_after.Reads as depth-after-reads
-use Rattle.dogwood_formatter.proofs.table.entry_at.Reads as entry-at-reads
 
 abbrev Inv-loop : tie.InvT-loop
 Inv-loop text table set first₀ depth₀ i₀ first depth i = ItemAt text table set first depth i

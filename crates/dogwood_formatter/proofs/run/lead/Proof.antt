@@ -1,13 +1,10 @@
-use Rattle.dogwood_formatter.proofs.Ends.{LeadAt, lead-start, lead-there, lead-turn, lead-stop, lead-end}
-use lib.ListN.{length, take, drop, getD}
-use borrow.Author.Needs.{needs}
+use Prim.Native.Nat.{_-_}
 use native.Mathlib.Omega.{arith}
-use Prim.Native.Nat.{ℕ, suc, _+_, _-_, _*_, _≤_, _<_}
-use mathlib.Core.Path.{_≡_, refl, sym, ap, _∙_, subst}
+use lib.ListN.{length}
+use borrow.Author.Needs.{needs}
+use Rattle.dogwood_formatter.proofs.Ends.{LeadAt, lead-start, lead-there, lead-turn, lead-stop, lead-end}
 use Rattle.dogwood_formatter.proofs.run.lead.Statement.{statement}
 use Rattle.dogwood_formatter.proofs.run.lead.Tie as tie
-use Rattle.dogwood_formatter.proofs.run.lead.Reads as reads
-use Rattle.dogwood_formatter.proofs.run.lead.Lts as lts
 
 abbrev Inv-loop : tie.InvT-loop
 Inv-loop table i₀ i = LeadAt table i

@@ -1,15 +1,8 @@
+use mathlib.Core.Path.{sym, _∙_}
 use Rattle.dogwood_formatter.proofs.Loops.{piece-group, piece-one}
 use Rattle.dogwood_formatter.proofs.Tables.{held-at, entry-there}
-use native.Mathlib.Omega.{arith}
-use mathlib.Core.Path.{_≡_, refl, sym, ap, _∙_, subst}
-use borrow.Author.Needs.{needs}
 use Rattle.dogwood_formatter.proofs.run.piece_end.Statement.{statement}
 use Rattle.dogwood_formatter.proofs.run.piece_end.Tie as tie
-use Rattle.dogwood_formatter.proofs.run.piece_end.Reads as reads
-use Rattle.dogwood_formatter.proofs.run.piece_end.Lts as lts
-use Rattle.dogwood_formatter.proofs.table.entry_at.Reads as entry-at-reads
-use Rattle.dogwood_formatter.proofs.run.group_end.Reads as group-end-reads
-use Rattle.dogwood_formatter.proofs.table.opens.Reads as opens-reads
 
 entry-at-requires : tie.Need-entry-at-requires
 entry-at-requires c κs = entry-there _ _ 0 (c .before .before .pre .0 .holds) (c .before .before .pre .1)

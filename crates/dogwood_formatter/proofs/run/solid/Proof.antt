@@ -1,13 +1,8 @@
-use Rattle.dogwood_formatter.proofs.Ends.{BackAt, back-start, back-there, back-turn, back-stop, back-none}
-use lib.ListN.{length, take, drop, getD}
-use borrow.Author.Needs.{needs}
 use native.Mathlib.Omega.{arith}
-use Prim.Native.Nat.{ℕ, suc, _+_, _-_, _*_, _≤_, _<_}
-use mathlib.Core.Path.{_≡_, refl, sym, ap, _∙_, subst}
+use borrow.Author.Needs.{needs}
+use Rattle.dogwood_formatter.proofs.Ends.{BackAt, back-start, back-there, back-turn, back-stop, back-none}
 use Rattle.dogwood_formatter.proofs.run.solid.Statement.{statement}
 use Rattle.dogwood_formatter.proofs.run.solid.Tie as tie
-use Rattle.dogwood_formatter.proofs.run.solid.Reads as reads
-use Rattle.dogwood_formatter.proofs.run.solid.Lts as lts
 
 abbrev Inv-loop : tie.InvT-loop
 Inv-loop table n₀ n = BackAt table n

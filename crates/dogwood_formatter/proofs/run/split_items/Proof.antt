@@ -1,20 +1,14 @@
-use Rattle.dogwood_formatter.proofs.Splits.{filled-le}
-use Rattle.dogwood_formatter.specs.View.{tokens}
+use Prim.Native.Nat.{_-_}
+use native.Mathlib.Omega.{arith}
+use lib.ListN.{length}
+use borrow.Author.Needs.{needs}
 use Rattle.dogwood_rules.specs.Tree.{runOf}
+use Rattle.dogwood_formatter.specs.View.{tokens}
+use Rattle.dogwood_formatter.proofs.Splits.{filled-le, FoundAt, SetsAt, sets-start, sets-turn, sets-stop, sets-end, found-start, found-turn, found-two, found-end, item-here}
 use Rattle.dogwood_formatter.proofs.Ends.{holds-whole}
 use Rattle.dogwood_formatter.proofs.Tables.{ready-rest, ready-part}
-use Rattle.dogwood_formatter.proofs.Splits.{FoundAt, SetsAt, sets-start, sets-turn, sets-stop, sets-end, found-start, found-turn, found-two, found-end, item-here, filled-bound}
-use lib.ListN.{length, take, drop, getD}
-use borrow.Author.Needs.{needs}
-use native.Mathlib.Omega.{arith}
-use Prim.Native.Nat.{ℕ, suc, _+_, _-_, _*_, _≤_, _<_}
-use mathlib.Core.Path.{_≡_, refl, sym, ap, _∙_, subst}
 use Rattle.dogwood_formatter.proofs.run.split_items.Statement.{statement}
 use Rattle.dogwood_formatter.proofs.run.split_items.Tie as tie
-use Rattle.dogwood_formatter.proofs.run.split_items.Reads as reads
-use Rattle.dogwood_formatter.proofs.run.split_items.Lts as lts
-use Rattle.dogwood_formatter.proofs.run.filled.Reads as filled-reads
-use Rattle.dogwood_formatter.proofs.run.item_end.Reads as item-end-reads
 
 abbrev Inv-loop : tie.InvT-loop
 Inv-loop text table set found₀ i₀ found i = FoundAt text table set found i

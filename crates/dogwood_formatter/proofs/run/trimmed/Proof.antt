@@ -1,14 +1,10 @@
-use Rattle.dogwood_formatter.proofs.Ends.{front-fits, back-fits, whole-rest, rest-back}
+use Prim.Native.Nat.{_-_}
 use native.Mathlib.Omega.{arith}
 use lib.ListN.{length, take, drop, length-drop, length-take}
-use Prim.Native.Nat.{_-_}
 use borrow.Author.Needs.{needs}
+use Rattle.dogwood_formatter.proofs.Ends.{front-fits, back-fits, whole-rest, rest-back}
 use Rattle.dogwood_formatter.proofs.run.trimmed.Statement.{statement}
 use Rattle.dogwood_formatter.proofs.run.trimmed.Tie as tie
-use Rattle.dogwood_formatter.proofs.run.trimmed.Reads as reads
-use Rattle.dogwood_formatter.proofs.run.trimmed.Lts as lts
-use Rattle.dogwood_formatter.proofs.run.lead.Reads as lead-reads
-use Rattle.dogwood_formatter.proofs.run.solid.Reads as solid-reads
 
 lead-requires : tie.Need-lead-requires
 lead-requires c κs = search needs

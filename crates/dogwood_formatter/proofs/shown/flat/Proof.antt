@@ -1,19 +1,13 @@
+use mathlib.Core.Path.{_≡_, refl}
+use Prim.Native.Nat.{_-_}
+use native.Mathlib.Omega.{arith}
+use lib.ListN.{length}
+use borrow.Author.Needs.{needs}
 use Rattle.pen.proofs.Laws.{wrote-length}
 use Rattle.dogwood_formatter.proofs.Loops.{FlatAt, flat-start, flat-turn, flat-end}
 use Rattle.dogwood_formatter.proofs.Tables.{held-at, entry-there}
-use lib.ListN.{length, take, drop, getD}
-use borrow.Author.Needs.{needs}
-use native.Mathlib.Omega.{arith}
-use Prim.Native.Nat.{ℕ, suc, _+_, _-_, _*_, _≤_, _<_}
-use mathlib.Core.Path.{_≡_, refl, sym, ap, _∙_, subst}
 use Rattle.dogwood_formatter.proofs.shown.flat.Statement.{statement}
 use Rattle.dogwood_formatter.proofs.shown.flat.Tie as tie
-use Rattle.dogwood_formatter.proofs.shown.flat.Reads as reads
-use Rattle.dogwood_formatter.proofs.shown.flat.Lts as lts
-use Rattle.dogwood_formatter.proofs.table.entry_at.Reads as entry-at-reads
-use Rattle.dogwood_formatter.proofs.shown.put_token.Reads as put-token-reads
-use Rattle.pen.proofs.add.Reads as add-reads
-use Rattle.pen.proofs.clip.Reads as clip-reads
 
 abbrev Inv-loop : tie.InvT-loop
 Inv-loop out₀ text table n₀ i₀ out n i = (length out ≡ length out₀) × FlatAt text table out₀ out n i

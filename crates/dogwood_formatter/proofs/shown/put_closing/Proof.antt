@@ -1,14 +1,8 @@
-use Rattle.pen.proofs.Laws.{wrote-then, wrote-length}
 use native.Mathlib.Omega.{arith}
 use borrow.Author.Needs.{needs}
+use Rattle.pen.proofs.Laws.{wrote-then, wrote-length}
 use Rattle.dogwood_formatter.proofs.shown.put_closing.Statement.{statement}
 use Rattle.dogwood_formatter.proofs.shown.put_closing.Tie as tie
-use Rattle.dogwood_formatter.proofs.shown.put_closing.Reads as reads
-use Rattle.dogwood_formatter.proofs.shown.put_closing.Lts as lts
-use Rattle.dogwood_formatter.proofs.shown.put_token.Reads as put-token-reads
-use Rattle.pen.proofs.add.Reads as add-reads
-use Rattle.pen.proofs.clip.Reads as clip-reads
-use Rattle.pen.proofs.put_line.Reads as put-line-reads
 
 put-line-requires : tie.Need-put-line-requires
 put-line-requires c κs = search needs

@@ -1,14 +1,10 @@
+use mathlib.Core.Path.{sym, ap}
+use borrow.Author.Needs.{needs}
 use Rattle.pen.proofs.Laws.{wrote-same}
 use Rattle.dogwood_rules.specs.Utf8.{encode, bytesOf}
 use Rattle.dogwood_formatter.proofs.Tables.{shown-blank, shown-bytes}
-use mathlib.Core.Path.{sym, ap}
-use borrow.Author.Needs.{needs}
 use Rattle.dogwood_formatter.proofs.shown.put_token.Statement.{statement}
 use Rattle.dogwood_formatter.proofs.shown.put_token.Tie as tie
-use Rattle.dogwood_formatter.proofs.shown.put_token.Reads as reads
-use Rattle.dogwood_formatter.proofs.shown.put_token.Lts as lts
-use Rattle.pen.proofs.put.Reads as put-reads
-use Rattle.pen.proofs.put_all.Reads as put-all-reads
 
 put-requires : tie.Need-put-requires
 put-requires c κs = search needs

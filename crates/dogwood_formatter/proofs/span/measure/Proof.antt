@@ -1,16 +1,10 @@
+use Prim.Native.Nat.{_-_}
+use native.Mathlib.Omega.{arith}
+use lib.ListN.{length}
 use Rattle.dogwood_formatter.proofs.Loops.{SpanAt, span-start, span-turn, span-end}
 use Rattle.dogwood_formatter.proofs.Tables.{held-at, entry-there}
-use lib.ListN.{length, take, drop, getD}
-use borrow.Author.Needs.{needs}
-use native.Mathlib.Omega.{arith}
-use Prim.Native.Nat.{ℕ, suc, _+_, _-_, _*_, _≤_, _<_}
-use mathlib.Core.Path.{_≡_, refl, sym, ap, _∙_, subst}
 use Rattle.dogwood_formatter.proofs.span.measure.Statement.{statement}
 use Rattle.dogwood_formatter.proofs.span.measure.Tie as tie
-use Rattle.dogwood_formatter.proofs.span.measure.Reads as reads
-use Rattle.dogwood_formatter.proofs.span.measure.Lts as lts
-use Rattle.dogwood_formatter.proofs.table.entry_at.Reads as entry-at-reads
-use Rattle.dogwood_formatter.proofs.span.past_token.Reads as past-token-reads
 
 abbrev Inv-loop : tie.InvT-loop
 Inv-loop text table col s₀ i₀ s i = SpanAt text table (s₀ .col) s i

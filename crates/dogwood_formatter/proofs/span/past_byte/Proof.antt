@@ -1,13 +1,7 @@
-use Rattle.dogwood_formatter.proofs.Bytes.{past-lf, past-first, past-inner}
-use lib.ListN.{length, take, drop, getD}
-use native.Mathlib.Omega.{arith}
-use Prim.Native.Nat.{ℕ, suc, _+_, _-_, _*_, _≤_, _<_}
-use mathlib.Core.Path.{_≡_, refl, sym, ap, _∙_, subst}
 use borrow.Author.Needs.{needs}
+use Rattle.dogwood_formatter.proofs.Bytes.{past-lf, past-first, past-inner}
 use Rattle.dogwood_formatter.proofs.span.past_byte.Statement.{statement}
 use Rattle.dogwood_formatter.proofs.span.past_byte.Tie as tie
-use Rattle.dogwood_formatter.proofs.span.past_byte.Reads as reads
-use Rattle.dogwood_formatter.proofs.span.past_byte.Lts as lts
 
 add-t4 : tie.Need-add-t4
 add-t4 c = search needs

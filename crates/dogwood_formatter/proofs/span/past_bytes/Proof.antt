@@ -1,14 +1,10 @@
-use Rattle.dogwood_formatter.proofs.Bytes.{BytesAt, bytes-start, bytes-turn, bytes-end}
-use lib.ListN.{length, take, drop, getD}
-use borrow.Author.Needs.{needs}
+use Prim.Native.Nat.{_-_}
 use native.Mathlib.Omega.{arith}
-use Prim.Native.Nat.{ℕ, suc, _+_, _-_, _*_, _≤_, _<_}
-use mathlib.Core.Path.{_≡_, refl, sym, ap, _∙_, subst}
+use lib.ListN.{length}
+use borrow.Author.Needs.{needs}
+use Rattle.dogwood_formatter.proofs.Bytes.{BytesAt, bytes-start, bytes-turn, bytes-end}
 use Rattle.dogwood_formatter.proofs.span.past_bytes.Statement.{statement}
 use Rattle.dogwood_formatter.proofs.span.past_bytes.Tie as tie
-use Rattle.dogwood_formatter.proofs.span.past_bytes.Reads as reads
-use Rattle.dogwood_formatter.proofs.span.past_bytes.Lts as lts
-use Rattle.dogwood_formatter.proofs.span.past_byte.Reads as past-byte-reads
 
 abbrev Inv-loop : tie.InvT-loop
 Inv-loop bytes s₀ i₀ s i = BytesAt bytes s₀ s i

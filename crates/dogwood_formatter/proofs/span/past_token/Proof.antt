@@ -1,16 +1,10 @@
+use mathlib.Core.Path.{sym, ap, _∙_}
+use borrow.Author.Needs.{needs}
 use Rattle.dogwood_formatter.specs.Measure.{spanAfter, pastBytes}
 use Rattle.dogwood_formatter.proofs.Bytes.{past-encode, span-blank}
 use Rattle.dogwood_formatter.proofs.Tables.{shown-blank, shown-bytes}
-use lib.ListN.{length, take, drop, getD}
-use native.Mathlib.Omega.{arith}
-use Prim.Native.Nat.{ℕ, suc, _+_, _-_, _*_, _≤_, _<_}
-use mathlib.Core.Path.{_≡_, refl, sym, ap, _∙_, subst}
-use borrow.Author.Needs.{needs}
 use Rattle.dogwood_formatter.proofs.span.past_token.Statement.{statement}
 use Rattle.dogwood_formatter.proofs.span.past_token.Tie as tie
-use Rattle.dogwood_formatter.proofs.span.past_token.Reads as reads
-use Rattle.dogwood_formatter.proofs.span.past_token.Lts as lts
-use Rattle.dogwood_formatter.proofs.span.past_bytes.Reads as past-bytes-reads
 
 add-t7 : tie.Need-add-t7
 add-t7 c = search needs

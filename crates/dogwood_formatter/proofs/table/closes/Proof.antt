@@ -1,11 +1,7 @@
-use Rattle.dogwood_rules.specs.Tree.{opener, closer, comma, andOr}
-use Rattle.dogwood_formatter.specs.Scan.{cutAfterToken, cutBefore, depthAfter}
 use borrow.Author.Needs.{needs}
+use Rattle.dogwood_rules.specs.Tree.{closer}
 use Rattle.dogwood_formatter.proofs.table.closes.Statement.{statement}
 use Rattle.dogwood_formatter.proofs.table.closes.Tie as tie
-use Rattle.dogwood_formatter.proofs.table.closes.Reads as reads
-use Rattle.dogwood_formatter.proofs.table.closes.Lts as lts
-use Rattle.dogwood_formatter.proofs.table.is_byte.Reads as is-byte-reads
 
 is-byte-requires : tie.Need-is-byte-requires
 is-byte-requires c κs = search needs

@@ -1,11 +1,8 @@
-use Rattle.dogwood_rules.specs.Tree.{opener, closer, comma, andOr}
-use Rattle.dogwood_formatter.specs.Scan.{cutAfterToken, cutBefore, depthAfter}
 use borrow.Author.Needs.{needs}
+use Rattle.dogwood_rules.specs.Tree.{andOr}
+use Rattle.dogwood_formatter.specs.Scan.{cutBefore}
 use Rattle.dogwood_formatter.proofs.table.cuts_before.Statement.{statement}
 use Rattle.dogwood_formatter.proofs.table.cuts_before.Tie as tie
-use Rattle.dogwood_formatter.proofs.table.cuts_before.Reads as reads
-use Rattle.dogwood_formatter.proofs.table.cuts_before.Lts as lts
-use Rattle.dogwood_formatter.proofs.table.is_pair.Reads as is-pair-reads
 
 is-pair-requires : tie.Need-is-pair-requires
 is-pair-requires c κs = search needs

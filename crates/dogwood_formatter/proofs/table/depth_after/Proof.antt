@@ -1,15 +1,10 @@
-use Rattle.dogwood_formatter.proofs.Loops.{depth-open, depth-close, depth-same}
-use lib.ListN.{length, take, drop, getD}
+use mathlib.Core.Path.{_≡_, sym, _∙_}
+use Prim.Native.Nat.{_-_}
 use native.Mathlib.Omega.{arith}
-use Prim.Native.Nat.{ℕ, suc, _+_, _-_, _*_, _≤_, _<_}
-use mathlib.Core.Path.{_≡_, refl, sym, ap, _∙_}
 use borrow.Author.Needs.{needs}
+use Rattle.dogwood_formatter.proofs.Loops.{depth-open, depth-close, depth-same}
 use Rattle.dogwood_formatter.proofs.table.depth_after.Statement.{statement}
 use Rattle.dogwood_formatter.proofs.table.depth_after.Tie as tie
-use Rattle.dogwood_formatter.proofs.table.depth_after.Reads as reads
-use Rattle.dogwood_formatter.proofs.table.depth_after.Lts as lts
-use Rattle.dogwood_formatter.proofs.table.closes.Reads as closes-reads
-use Rattle.dogwood_formatter.proofs.table.opens.Reads as opens-reads
 
 opens-requires : tie.Need-opens-requires
 opens-requires c κs = search needs

@@ -1,10 +1,8 @@
-use Rattle.dogwood_formatter.proofs.Tables.{token-differs, token-byte, token-pair, shown-blank, shown-word}
-use mathlib.Core.Path.{sym, _∙_, ap}
+use mathlib.Core.Path.{sym}
 use borrow.Author.Needs.{needs}
+use Rattle.dogwood_formatter.proofs.Tables.{token-differs, token-byte}
 use Rattle.dogwood_formatter.proofs.table.is_byte.Statement.{statement}
 use Rattle.dogwood_formatter.proofs.table.is_byte.Tie as tie
-use Rattle.dogwood_formatter.proofs.table.is_byte.Reads as reads
-use Rattle.dogwood_formatter.proofs.table.is_byte.Lts as lts
 
 sub-if1 : tie.Need-sub-if1
 sub-if1 c = search needs
