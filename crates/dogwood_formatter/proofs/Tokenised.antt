@@ -2,10 +2,10 @@
 use mathlib.Core.Path.{_≡_, refl, sym, _∙_, ap, subst}
 use mathlib.Core.Bool.{Bool, true, false}
 use mathlib.Core.List.{List, [], _∷_, _++_, append-nil, append-assoc}
-use Prim.Native.Nat.{ℕ, _+_, _-_, _*_, _/_}
+use Prim.Native.Nat.{_≤_, ℕ, _+_, _-_, _*_, _/_}
 use native.Mathlib.Omega.{arith}
 use lib.Dec.{ltb}
-use lib.ListN.{length, take, drop, length-append}
+use lib.ListN.{length, take, drop, length-append, length-take, length-drop}
 use lib.Seq.{take-append-seam, drop-append-seam}
 use Rattle.dogwood_rules.specs.Basic.{if_then_else_}
 use Rattle.dogwood_rules.specs.Utf8.{size, later, bytesOf, encode, byteLength, decode}
@@ -15,10 +15,10 @@ use Rattle.dogwood_rules.proofs.RoundTrip.{AllScalar, scalars-more, decode-enco
 use Rattle.dogwood_rules.proofs.Scalars.{scalars-front}
 use Rattle.dogwood_rules.proofs.Decoding.{decode-sound}
 use Rattle.dogwood_rules.proofs.Spaced.{source}
-use Rattle.dogwood_rules.proofs.Chains.{tokenise-made}
+use Rattle.dogwood_rules.proofs.Chains.{Chain, chain-end, chain-more, tokenise-made}
 use Rattle.dogwood_formatter.specs.declared.table.Entry.{Entry}
-use Rattle.dogwood_formatter.specs.View.{kindOf, bytesAt, tokenOf, tokens, Held, Holds}
-use Rattle.dogwood_formatter.proofs.Bytes.{encode-append}
+use Rattle.dogwood_formatter.specs.View.{kindOf, bytesAt, tokenOf, tokens, Held, Holds, Ready}
+use Rattle.dogwood_formatter.proofs.Bytes.{encode-append, encode-longer}
 use Rattle.dogwood_formatter.proofs.Tables.{holds-drop, holds-take, tokens-drop, tokens-take}
 
 kind-of : (k : Kind) → kindOf (kindNumber k) ≡ k
@@ -78,6 +78,21 @@ module _ (before behind : List ℕ) (t : Token) (scalar : AllScalar (t .text)) w
       let n = length-append (encode (t .text)) behind in
       record { ordered = omega arith; inside = omega arith; spells = ap (λ (u : Token). encode (u .text)) entry-token ∙ sym entry-bytes }
 
+-- a token has a character
+chain-length : {k : List ℕ} {ts : List Token} → Chain k ts → length ts ≤ length (source ts)
+unfolding source
+chain-length chain-end = omega arith
+chain-length (chain-more {t} {ts} r c) =
+    let h = chain-length c in
+    let l = length-append (t .text) (source ts) in
+    let f = ap length (r .text) in
+    omega arith
+
+words-length : (at : ℕ) (ts : List Token) → length (wordsOf (placed at ts)) ≡ 3 * length ts
+unfolding wordsOf placed
+words-length at [] = refl
+words-length at (t ∷ ts) = let h = words-length (at + byteLength (t .text)) ts in omega arith
+
 record Filled (text ws : List ℕ) (ts : List Token) : Type 0 where
   holds : Holds text ws
   same : tokens text ws ≡ ts
@@ -120,9 +135,26 @@ module _ (text cs : List ℕ) (d : decode text ≡ (cs, [])) (e : tokenise cs .1
   pub table-tokens : tokens text table ≡ tokenise cs .0
   table-tokens = filled-table .same
 
+  pub table-ready : length text ≤ 1048576 → Ready text table
+  table-ready h =
+      let k = ap length (decode-sound text .whole) in
+      let l = length-append (encode (decode text .0)) (decode text .1) in
+      let m = encode-longer cs in
+      let n : length (encode cs) ≡ length (encode (decode text .0)) = ap (λ (r : List ℕ × List ℕ). length (encode (r .0))) (sym d) in
+      let c = chain-length (tokenise-made cs .chain) in
+      let w = ap length (tokenise-made cs .whole) in
+      let v = length-append (source (tokenise cs .0)) (tokenise cs .1) in
+      let t = words-length 0 (tokenise cs .0) in
+      record { small = h; short = omega arith; holds = table-holds }
+
   -- n tokens of it from token i on
-  pub part-holds : (i n : ℕ) → Holds text (take (3 * n) (drop (3 * i) table))
-  part-holds i n = holds-take text (drop (3 * i) table) n (holds-drop text table i table-holds)
+  pub part-ready : length text ≤ 1048576 → (i n : ℕ) → Ready text (take (3 * n) (drop (3 * i) table))
+  part-ready h i n =
+      let r = table-ready h in
+      let s = r .short in
+      let a = length-take (3 * n) (drop (3 * i) table) in
+      let b = length-drop (3 * i) table in
+      record { small = h; short = omega arith; holds = holds-take text (drop (3 * i) table) n (holds-drop text table i table-holds) }
 
   pub part-tokens : (i n : ℕ) → tokens text (take (3 * n) (drop (3 * i) table)) ≡ take n (drop i (tokenise cs .0))
   part-tokens i n =

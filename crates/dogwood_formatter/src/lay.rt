@@ -26,6 +26,7 @@ ghost use Rattle.dogwood_formatter.specs.Shape.{Formed};
 ghost use Rattle.dogwood_rules.specs.Layout.{walk};
 ghost use Rattle.dogwood_formatter.specs.Pieces.{settings, Bounded, LaidOut, Measured, OnePiece, Broken, PieceLaid, brokenText, itemsText, itemText};
 
+// How wide a line may be, and how many spaces a level is indented by.
 pub(crate) struct Page {
     pub(crate) width: usize,
     pub(crate) indent: usize,

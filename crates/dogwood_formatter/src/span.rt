@@ -13,6 +13,7 @@ pub(crate) struct Span {
     pub(crate) col: usize,
 }
 
+// A byte 80 to BF belongs to the character before it and takes no column.
 fn past_byte(s: Span, b: u8) -> Span
     requires { ⌜ (s .width < 0xffff_ffff_ffff_ffff) × (s .col < 0xffff_ffff_ffff_ffff) ⌝ }
     ensures { λ r. ⌜ r ≡ pastByte s b ⌝ }

@@ -8,6 +8,7 @@ ghost use Rattle.dogwood_rules.specs.Tree.{opener, closer};
 ghost use Rattle.dogwood_formatter.specs.View.{entryAt, tokenOf, Held};
 ghost use Rattle.dogwood_formatter.specs.Scan.{depthAfter, cutAfterToken, cutBefore};
 
+// A token's kind, and its bounds in the text.
 pub(crate) struct Entry {
     pub(crate) kind: u32,
     pub(crate) start: u32,
