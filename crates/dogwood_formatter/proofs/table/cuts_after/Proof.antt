@@ -1,0 +1,15 @@
+use borrow.Author.Needs.{needs}
+use Rattle.dogwood_rules.specs.Tree.{comma}
+use Rattle.dogwood_formatter.specs.Scan.{cutAfterToken}
+use Rattle.dogwood_formatter.proofs.table.cuts_after.Statement.{statement}
+use Rattle.dogwood_formatter.proofs.table.cuts_after.Tie as tie
+
+is-byte-requires : tie.Need-is-byte-requires
+is-byte-requires c κs = search needs
+
+returns : tie.Need-returns
+unfolding cutAfterToken comma
+returns c = cc
+
+pub cuts-after-spec : {M : Type 1} → statement M
+cuts-after-spec = tie.close (tie.spec is-byte-requires returns)

@@ -1,0 +1,18 @@
+use borrow.Author.Needs.{needs}
+use Rattle.dogwood_rules.specs.Tree.{andOr}
+use Rattle.dogwood_formatter.specs.Scan.{cutBefore}
+use Rattle.dogwood_formatter.proofs.table.cuts_before.Statement.{statement}
+use Rattle.dogwood_formatter.proofs.table.cuts_before.Tie as tie
+
+is-pair-requires : tie.Need-is-pair-requires
+is-pair-requires c κs = search needs
+
+is-pair-requires-2 : tie.Need-is-pair-requires-2
+is-pair-requires-2 c κs = search needs
+
+returns : tie.Need-returns
+unfolding cutBefore andOr
+returns c = cc
+
+pub cuts-before-spec : {M : Type 1} → statement M
+cuts-before-spec = tie.close (tie.spec is-pair-requires is-pair-requires-2 returns)
