@@ -8,13 +8,11 @@ use lib.Dec.{ltb}
 use lib.ListN.{length, take, drop, length-append, length-take, length-drop}
 use lib.Seq.{take-append-seam, drop-append-seam}
 use Rattle.dogwood_rules.specs.Basic.{if_then_else_}
-use Rattle.dogwood_rules.specs.Utf8.{size, later, bytesOf, encode, byteLength, decode}
-use Rattle.dogwood_rules.specs.Token.{Token, Kind, Whitespace, Comment, String, Identifier, Number, Symbol, Other, kindNumber, tokenise, placed}
-use Rattle.dogwood_rules.specs.Answer.{wordsOf}
-use Rattle.dogwood_rules.proofs.RoundTrip.{AllScalar, scalars-more, decode-encode}
+use Rattle.dogwood_rules.specs.Utf8.{size, later, bytesOf, encode, byteLength, decode, AllScalar, scalars-more}
+use Rattle.dogwood_rules.specs.Token.{Token, Kind, Whitespace, Comment, String, Identifier, Number, Symbol, Other, kindNumber, tokenise, placed, wordsOf, spell}
+use Rattle.dogwood_rules.proofs.RoundTrip.{decode-encode}
 use Rattle.dogwood_rules.proofs.Scalars.{scalars-front}
 use Rattle.dogwood_rules.proofs.Decoding.{decode-sound}
-use Rattle.dogwood_rules.proofs.Spaced.{source}
 use Rattle.dogwood_rules.proofs.Chains.{Chain, chain-end, chain-more, tokenise-made}
 use Rattle.dogwood_formatter.specs.declared.table.Entry.{Entry}
 use Rattle.dogwood_formatter.specs.View.{kindOf, bytesAt, tokenOf, tokens, Held, Holds, Ready}
@@ -79,12 +77,12 @@ module _ (before behind : List ℕ) (t : Token) (scalar : AllScalar (t .text)) w
       record { ordered = omega arith; inside = omega arith; spells = ap (λ (u : Token). encode (u .text)) entry-token ∙ sym entry-bytes }
 
 -- a token has a character
-chain-length : {k : List ℕ} {ts : List Token} → Chain k ts → length ts ≤ length (source ts)
-unfolding source
+chain-length : {k : List ℕ} {ts : List Token} → Chain k ts → length ts ≤ length (spell ts)
+unfolding spell
 chain-length chain-end = omega arith
 chain-length (chain-more {t} {ts} r c) =
     let h = chain-length c in
-    let l = length-append (t .text) (source ts) in
+    let l = length-append (t .text) (spell ts) in
     let f = ap length (r .text) in
     omega arith
 
@@ -98,19 +96,19 @@ record Filled (text ws : List ℕ) (ts : List Token) : Type 0 where
   same : tokens text ws ≡ ts
 
 -- tokens that stand behind some bytes
-filled-from : (before : List ℕ) (ts : List Token) → AllScalar (source ts) → Filled (before ++ encode (source ts)) (wordsOf (placed (length before) ts)) ts
-unfolding source placed wordsOf Holds tokens encode
+filled-from : (before : List ℕ) (ts : List Token) → AllScalar (spell ts) → Filled (before ++ encode (spell ts)) (wordsOf (placed (length before) ts)) ts
+unfolding spell placed wordsOf Holds tokens encode
 filled-from before [] h = record { holds = tt; same = refl }
 filled-from before (t ∷ ts) h =
     let one = encode (t .text) in
-    let rest = encode (source ts) in
-    let e : before ++ encode (t .text ++ source ts) ≡ (before ++ one) ++ rest = ap (λ (l : List ℕ). before ++ l) (encode-append (t .text) (source ts)) ∙ sym (append-assoc before one rest) in
+    let rest = encode (spell ts) in
+    let e : before ++ encode (t .text ++ spell ts) ≡ (before ++ one) ++ rest = ap (λ (l : List ℕ). before ++ l) (encode-append (t .text) (spell ts)) ∙ sym (append-assoc before one rest) in
     let l : length (before ++ one) ≡ length before + byteLength (t .text) = length-append before one ∙ ap (λ (n : ℕ). length before + n) (length-encode (t .text)) in
-    let s = scalars-front (t .text) (source ts) h in
-    let ih = filled-from (before ++ one) ts (scalars-back (t .text) (source ts) h) in
-    let more : Filled (before ++ encode (t .text ++ source ts)) (wordsOf (placed (length before + byteLength (t .text)) ts)) ts =
+    let s = scalars-front (t .text) (spell ts) h in
+    let ih = filled-from (before ++ one) ts (scalars-back (t .text) (spell ts) h) in
+    let more : Filled (before ++ encode (t .text ++ spell ts)) (wordsOf (placed (length before + byteLength (t .text)) ts)) ts =
     subst (λ (text : List ℕ). Filled text (wordsOf (placed (length before + byteLength (t .text)) ts)) ts) (sym e) (subst (λ (n : ℕ). Filled ((before ++ one) ++ rest) (wordsOf (placed n ts)) ts) l ih) in
-    let here : before ++ (one ++ rest) ≡ before ++ encode (t .text ++ source ts) = ap (λ (b : List ℕ). before ++ b) (sym (encode-append (t .text) (source ts))) in
+    let here : before ++ (one ++ rest) ≡ before ++ encode (t .text ++ spell ts) = ap (λ (b : List ℕ). before ++ b) (sym (encode-append (t .text) (spell ts))) in
     record {
       holds = (subst (λ (text : List ℕ). Held text (entry before rest t s)) here (entry-held before rest t s), more .holds);
       same = λ j. (ap (λ (text : List ℕ). tokenOf text (entry before rest t s)) (sym here) ∙ entry-token before rest t s) j ∷ more .same j;
@@ -124,8 +122,8 @@ module _ (text cs : List ℕ) (d : decode text ≡ (cs, [])) (e : tokenise cs .1
   filled-table =
       let k = decode-sound text in
       let bytes : encode cs ≡ text = sym (append-nil (encode cs)) ∙ (λ j. encode (sym d j .0) ++ sym d j .1) ∙ k .whole in
-      let whole : source (tokenise cs .0) ≡ cs = sym (append-nil (source (tokenise cs .0))) ∙ ap (λ (l : List ℕ). source (tokenise cs .0) ++ l) (sym e) ∙ tokenise-made cs .whole in
-      let scalar : AllScalar (source (tokenise cs .0)) = subst AllScalar (ap (λ (r : List ℕ × List ℕ). r .0) d ∙ sym whole) (k .scalars) in
+      let whole : spell (tokenise cs .0) ≡ cs = sym (append-nil (spell (tokenise cs .0))) ∙ ap (λ (l : List ℕ). spell (tokenise cs .0) ++ l) (sym e) ∙ tokenise-made cs .whole in
+      let scalar : AllScalar (spell (tokenise cs .0)) = subst AllScalar (ap (λ (r : List ℕ × List ℕ). r .0) d ∙ sym whole) (k .scalars) in
       subst (λ (t : List ℕ). Filled t table (tokenise cs .0)) (ap encode whole ∙ bytes) (filled-from [] (tokenise cs .0) scalar)
 
   -- the whole table
@@ -143,7 +141,7 @@ module _ (text cs : List ℕ) (d : decode text ≡ (cs, [])) (e : tokenise cs .1
       let n : length (encode cs) ≡ length (encode (decode text .0)) = ap (λ (r : List ℕ × List ℕ). length (encode (r .0))) (sym d) in
       let c = chain-length (tokenise-made cs .chain) in
       let w = ap length (tokenise-made cs .whole) in
-      let v = length-append (source (tokenise cs .0)) (tokenise cs .1) in
+      let v = length-append (spell (tokenise cs .0)) (tokenise cs .1) in
       let t = words-length 0 (tokenise cs .0) in
       record { small = h; short = omega arith; holds = table-holds }
 
