@@ -46,13 +46,14 @@ def reading_against_rust(count, seed):
 
 def main(arguments, usage):
     import known
+    import layout
     import programs
     import rules
 
     what = arguments[0] if arguments else ""
     count = int(arguments[1]) if len(arguments) > 1 else 1000
     seed = arguments[2] if len(arguments) > 2 else "1"
-    commands = {"reading": reading_against_rust, "rules": rules.compare, "known": known.compare}
+    commands = {"reading": reading_against_rust, "rules": rules.compare, "known": known.compare, "layout": layout.compare}
     commands.update({name: programs.comparison(name) for name in programs.NAMES})
     if what not in commands:
         print(usage, file=sys.stderr)

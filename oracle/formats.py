@@ -4,8 +4,6 @@
             -> `number value`, then each word of the table, in one line
   outlines  source length, outline words, table words; source, outline
             -> as tokens
-  layout    source length, width, indent, output room; source
-            -> `length`, LF, the layout, LF
   calls     source length, outline words, table words, output room; source, outline
             -> `number place length`, LF, the whole output, LF, the table's words, LF
 
@@ -45,11 +43,6 @@ def outlines(source, outline, room):
     return Record(asked, line([number, value] + words_after(table, room)), (source, outline, room))
 
 
-def layout(source, width, indent, laid, room):
-    asked = packed(len(source), width, indent, room) + source
-    return Record(asked, line([len(laid)]) + laid + b"\n", (source, width, indent, room))
-
-
 def calls(source, outline, table_room, output_room):
     answer = reading.answer(80, 2, source, outline, table_room, output_room)
     asked = packed(len(source), len(outline), table_room, output_room) + source + packed(*outline)
@@ -61,7 +54,6 @@ def calls(source, outline, table_room, output_room):
 
 HEADS = {
     "tokens": ["source bytes", "table words"], "outlines": ["source bytes", "outline words", "table words"],
-    "layout": ["source bytes", "width", "indent", "output bytes"],
     "calls": ["source bytes", "outline words", "table words", "output bytes"],
 }
 
@@ -81,18 +73,12 @@ def written_line(data, at, record):
     return upto_line_end(data, at)
 
 
-def written_layout(data, at, record):
-    head = upto_line_end(data, at)
-    length = data[at:head].strip()
-    return head + (int(length) if length.isdigit() else 0) + 1
-
-
 def written_call(data, at, record):
     return upto_line_end(data, upto_line_end(data, at) + record.what[3] + 1)
 
 
 # where a program's answer to a record ends
-ENDS = {"tokens": written_line, "outlines": written_line, "layout": written_layout, "calls": written_call}
+ENDS = {"tokens": written_line, "outlines": written_line, "calls": written_call}
 
 
 def differences(name, records, data):

@@ -12,7 +12,7 @@ import generate
 import reading
 import rust
 
-NAMES = {"tokens": "tokens_replay", "outlines": "outline_replay", "layout": "layout_replay", "calls": "calls_replay"}
+NAMES = {"tokens": "tokens_replay", "outlines": "outline_replay", "calls": "calls_replay"}
 MOST = 4096
 MOST_OUTPUT = 65_536
 
@@ -76,27 +76,7 @@ def part_of(rng, case):
     return rng.choice(parts) if parts else None
 
 
-def layout_records(host, count, seed):
-    """Whole parts, laid out at several widths and indents; the Rust and the reading must agree on each."""
-    rng, found, index = random.Random(f"layout {seed}"), [], 0
-    while len(found) < count:
-        case = generate.deep(seed, index) if index % 60 == 7 else generate.case(seed, index, damage=0)
-        index += 1
-        source = part_of(rng, case)
-        if source is None:
-            continue
-        laid = reading.lay_out(reading.tokenise(source.decode())[0], 0, case.width, case.indent).encode()
-        if len(laid) <= MOST_OUTPUT - 9:
-            found.append(formats.layout(source, case.width, case.indent, laid, len(laid) + rng.choice([0, 0, 1, 9])))
-    if host:
-        asked = [rust.question(rust.LAYOUT, source, (), width, indent) for source, width, indent, _ in (r.what for r in found)]
-        for record, (how, told) in zip(found, rust.ask(host, asked)):
-            if how != rust.ANSWERED or formats.line([len(told)]) + told + b"\n" != record.due:
-                raise SystemExit(f"oracle: the reading and the Rust disagree on the layout of {record.what}: {told!r}, {record.due!r}")
-    return found
-
-
-RECORDS = {"tokens": tokens_records, "outlines": outlines_records, "layout": layout_records, "calls": calls_records}
+RECORDS = {"tokens": tokens_records, "outlines": outlines_records, "calls": calls_records}
 
 
 def listed(crate):
