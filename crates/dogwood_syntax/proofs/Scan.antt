@@ -1,13 +1,13 @@
 -- The scan for quotes and comments finds the string without end that the tokens show.
 use Prim.Native.Nat.{ℕ, _+_, _<_, _≤_}
-use mathlib.Core.Path.{_≡_, refl, sym, ap, _∙_, subst}
+use mathlib.Core.Path.{_≡_, refl, sym, ap, _∙_}
 use mathlib.Core.Bool.{Bool, true, false, cond, _&&_, false≢true}
 use mathlib.Core.List.{List}
 use native.Mathlib.Omega.{arith}
 use borrow.Author.Tests.{eqb-true, ne-eqb}
 use lib.ListN.{length, getD}
 use lib.Dec.{eqb, ltb}
-use Rattle.dogwood_rules.specs.Token.{white, letter, digit, wordly, single, double, lineEnd, other}
+use Rattle.dogwood_rules.specs.Token.{white, letter, digit, wordly, single, double, other}
 use Rattle.utf8.specs.Utf8.{decodeAt}
 use Rattle.utf8.specs.Walk.{stop, go}
 use Rattle.utf8.specs.declared.Decoded.{Decoded}

@@ -16,9 +16,8 @@ use Rattle.dogwood_rules.specs.Answer.{wordsOf}
 use Rattle.dogwood_syntax.specs.Cursor.{tokensAt}
 use Rattle.dogwood_syntax.specs.Table.{shortOf}
 use Rattle.utf8.specs.Walk.{stop, go}
-use Rattle.utf8.specs.declared.Found.{Found}
 use Rattle.utf8.specs.declared.Found.the-variants.{At, Nothing}
-use Rattle.utf8.proofs.Walk.{Onward, from-go, from-stop, from-ind, stop≢go}
+use Rattle.utf8.proofs.Walk.{Onward, from-ind, stop≢go}
 use Rattle.dogwood_syntax.specs.declared.token.Lexeme.{Lexeme}
 use Rattle.dogwood_syntax.specs.declared.token.Lexeme.the-variants.{Token, NoEnd, End}
 use Rattle.dogwood_syntax.specs.Token.{tokenAt}
@@ -44,31 +43,6 @@ open-onward s i a j e = by (tokenAt s i) refl e
     by (Token k z) h e = let q : z ≡ j = cc in let p = token-inside s i h in omega arith
     by NoEnd h e = absurd (stop≢go e)
     by End h e = absurd (stop≢go e)
-
-module _ (s : List ℕ) (i : ℕ) where
-  pub tokens-on : {k e : ℕ} → tokenAt s i ≡ Token k e → tokensFrom s i ≡ record { kind = k; start = i; end = e } ∷ tokensFrom s e
-  unfolding tokensFrom tokenStep
-  tokens-on {k} {e} h = from-go (tokenStep s) _∷_ [] (length s) (tokens-onward s) i e (simp h)
-
-  pub tokens-open : tokenAt s i ≡ NoEnd → tokensFrom s i ≡ []
-  unfolding tokensFrom tokenStep
-  tokens-open h = from-stop (tokenStep s) _∷_ [] (length s) i (simp h)
-
-  pub tokens-end : tokenAt s i ≡ End → tokensFrom s i ≡ []
-  unfolding tokensFrom tokenStep
-  tokens-end h = from-stop (tokenStep s) _∷_ [] (length s) i (simp h)
-
-  pub open-on : {k e : ℕ} → tokenAt s i ≡ Token k e → openFrom s i ≡ openFrom s e
-  unfolding openFrom openStep
-  open-on {k} {e} h = from-go (openStep s) (λ u r. r) Nothing (length s) (open-onward s) i e (simp h)
-
-  pub open-here : tokenAt s i ≡ NoEnd → openFrom s i ≡ At i
-  unfolding openFrom openStep
-  open-here h = from-stop (openStep s) (λ u r. r) Nothing (length s) i (simp h)
-
-  pub open-none : tokenAt s i ≡ End → openFrom s i ≡ Nothing
-  unfolding openFrom openStep
-  open-none h = from-stop (openStep s) (λ u r. r) Nothing (length s) i (simp h)
 
 -- ---- words
 

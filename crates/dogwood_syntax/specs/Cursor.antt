@@ -7,6 +7,7 @@ use lib.ListN.{drop}
 use Rattle.dogwood_rules.specs.Utf8.{decode, byteLength}
 use Rattle.dogwood_rules.specs.Token as R
 use Rattle.dogwood_rules.specs.Token.{Placed, placed, token, tokenise, kindNumber}
+use Rattle.dogwood_syntax.specs.declared.cursor.Cursor.{Cursor as CursorOf}
 use Rattle.dogwood_syntax.specs.declared.cursor.Step.{Step}
 use Rattle.dogwood_syntax.specs.declared.cursor.Step.the-variants.{Token, Unended, Ended}
 
@@ -27,7 +28,10 @@ stepOf at (c ∷ cs) = given at (token (c ∷ cs))
 unfoldable pub nextOf : List ℕ → ℕ → Step
 nextOf text at = stepOf at (decode (drop at text) .0)
 
--- no second answer keeps the promise of `next`
+-- no second answer keeps the promise of `new`, nor that of `next`
+pub new-only : (r r′ : CursorOf) → r .at ≡ 0 → r′ .at ≡ 0 → r ≡ r′
+new-only r r′ p q = λ i. record { at = (p ∙ sym q) i }
+
 pub next-only : (text : List ℕ) (at : ℕ) (r r′ : Step) → r ≡ nextOf text at → r′ ≡ nextOf text at → r ≡ r′
 next-only text at r r′ p q = p ∙ sym q
 

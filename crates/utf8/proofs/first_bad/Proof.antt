@@ -1,5 +1,5 @@
-use Prim.Native.Nat.{_+_, _-_}
-use mathlib.Core.Path.{_≡_, refl, sym, _∙_}
+use Prim.Native.Nat.{_-_}
+use mathlib.Core.Path.{_≡_, sym, _∙_}
 use native.Mathlib.Omega.{arith}
 use lib.ListN.{length}
 use borrow.Author.Needs.{needs}
@@ -9,10 +9,6 @@ use Rattle.utf8.proofs.Valid.{bad-char, bad-ascii, bad-fault, bad-end}
 use Rattle.utf8.proofs.Whole.{bad-from}
 use Rattle.utf8.proofs.first_bad.Statement.{statement}
 use Rattle.utf8.proofs.first_bad.Tie as tie
-use Rattle.utf8.proofs.first_bad.Reads as reads
-use Rattle.utf8.proofs.first_bad.Lts as lts
-use Rattle.utf8.proofs.ascii_end.Reads as ascii-end-reads
-use Rattle.utf8.proofs.decode.Reads as decode-reads
 
 abbrev Inv-loop : tie.InvT-loop
 Inv-loop s i₀ i = badFrom s i ≡ badFrom s 0

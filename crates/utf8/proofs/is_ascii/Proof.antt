@@ -2,7 +2,7 @@ use Prim.Native.Nat.{_+_, _-_, _≤_}
 use mathlib.Core.Path.{_≡_, refl, sym, ap, _∙_}
 use mathlib.Core.Bool.{true}
 use native.Mathlib.Omega.{arith}
-use lib.ListN.{length, getD}
+use lib.ListN.{getD}
 use lib.Dec.{ltb}
 use borrow.Author.Tests.{ltb-true}
 use Rattle.utf8.specs.Valid.{badFrom}
@@ -10,8 +10,6 @@ use Rattle.utf8.proofs.Cases.{and-true}
 use Rattle.utf8.proofs.Valid.{bad-ascii}
 use Rattle.utf8.proofs.is_ascii.Statement.{statement}
 use Rattle.utf8.proofs.is_ascii.Tie as tie
-use Rattle.utf8.proofs.is_ascii.Reads as reads
-use Rattle.utf8.proofs.is_ascii.Lts as lts
 
 abbrev Inv-loop : tie.InvT-loop
 Inv-loop s at all₀ i₀ i-end all i =
@@ -20,27 +18,21 @@ Inv-loop s at all₀ i₀ i-end all i =
 abbrev μ-loop : tie.MeasureT-loop
 μ-loop s at all₀ i₀ i-end all i = i-end - i
 
--- src/lib.rt:159:18
 add-i-end : tie.Need-add-i-end Inv-loop μ-loop
 add-i-end c = omega arith
 
--- src/lib.rt:159:5
 loop-holds : tie.Need-loop-holds Inv-loop μ-loop
 loop-holds c = (omega arith, omega arith, refl, λ e. refl)
 
--- src/lib.rt:160:22
 shared-slice-read-all : tie.Need-shared-slice-read-all Inv-loop μ-loop
 shared-slice-read-all c = omega arith
 
--- src/lib.rt:159:9
 add-i : tie.Need-add-i Inv-loop μ-loop
 add-i c = omega arith
 
--- src/lib.rt:159:5
 loop-less : tie.Need-loop-less Inv-loop μ-loop
 loop-less c = omega arith
 
--- src/lib.rt:159:5
 loop-again : tie.Need-loop-again Inv-loop μ-loop
 loop-again c = (
   omega arith,
@@ -53,7 +45,6 @@ loop-again c = (
       sym (bad-ascii s i (omega arith) (ltb-true _ _ (p .1))) ∙ c .before .before .loop .inv .3 (p .0),
 )
 
--- src/lib.rt:154:1
 returns : tie.Need-returns Inv-loop μ-loop
 returns c = λ e.
     let s = c .before .before .args .s .now in

@@ -2,7 +2,6 @@ use Rattle.dogwood_rules.specs.Token.{lineEnd}
 use mathlib.Core.Path.{refl}
 use Rattle.dogwood_syntax.proofs.classes.is_line.Statement.{statement}
 use Rattle.dogwood_syntax.proofs.classes.is_line.Tie as tie
-use Rattle.dogwood_syntax.proofs.classes.is_line.Lts as lts
 
 returns : tie.Need-returns
 unfolding lineEnd

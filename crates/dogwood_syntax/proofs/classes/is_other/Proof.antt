@@ -2,11 +2,6 @@ use Rattle.dogwood_rules.specs.Token.{other}
 use borrow.Author.Needs.{needs}
 use Rattle.dogwood_syntax.proofs.classes.is_other.Statement.{statement}
 use Rattle.dogwood_syntax.proofs.classes.is_other.Tie as tie
-use Rattle.dogwood_syntax.proofs.classes.is_other.Reads as reads
-use Rattle.dogwood_syntax.proofs.classes.is_other.Lts as lts
-use Rattle.dogwood_syntax.proofs.symbols.is_single.Reads as is-single-reads
-use Rattle.dogwood_syntax.proofs.classes.is_space.Reads as is-space-reads
-use Rattle.dogwood_syntax.proofs.classes.is_word.Reads as is-word-reads
 
 is-space-requires : tie.Need-is-space-requires
 is-space-requires c κs = search needs

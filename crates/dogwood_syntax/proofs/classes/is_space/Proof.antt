@@ -2,9 +2,6 @@ use Rattle.dogwood_rules.specs.Token.{white}
 use borrow.Author.Needs.{needs}
 use Rattle.dogwood_syntax.proofs.classes.is_space.Statement.{statement}
 use Rattle.dogwood_syntax.proofs.classes.is_space.Tie as tie
-use Rattle.dogwood_syntax.proofs.classes.is_space.Reads as reads
-use Rattle.dogwood_syntax.proofs.classes.is_space.Lts as lts
-use Rattle.dogwood_syntax.proofs.classes.is_in.Reads as is-in-reads
 
 is-in-requires : tie.Need-is-in-requires
 is-in-requires c κs = search needs

@@ -2,10 +2,6 @@ use Rattle.dogwood_rules.specs.Token.{wordly}
 use borrow.Author.Needs.{needs}
 use Rattle.dogwood_syntax.proofs.classes.is_word.Statement.{statement}
 use Rattle.dogwood_syntax.proofs.classes.is_word.Tie as tie
-use Rattle.dogwood_syntax.proofs.classes.is_word.Reads as reads
-use Rattle.dogwood_syntax.proofs.classes.is_word.Lts as lts
-use Rattle.dogwood_syntax.proofs.classes.is_digit.Reads as is-digit-reads
-use Rattle.dogwood_syntax.proofs.classes.is_letter.Reads as is-letter-reads
 
 is-letter-requires : tie.Need-is-letter-requires
 is-letter-requires c κs = search needs

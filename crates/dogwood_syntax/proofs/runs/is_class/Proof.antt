@@ -2,13 +2,6 @@ use Rattle.dogwood_syntax.specs.Class.{inClass}
 use borrow.Author.Needs.{needs}
 use Rattle.dogwood_syntax.proofs.runs.is_class.Statement.{statement}
 use Rattle.dogwood_syntax.proofs.runs.is_class.Tie as tie
-use Rattle.dogwood_syntax.proofs.runs.is_class.Reads as reads
-use Rattle.dogwood_syntax.proofs.runs.is_class.Lts as lts
-use Rattle.dogwood_syntax.proofs.classes.is_digit.Reads as is-digit-reads
-use Rattle.dogwood_syntax.proofs.classes.is_line.Reads as is-line-reads
-use Rattle.dogwood_syntax.proofs.classes.is_other.Reads as is-other-reads
-use Rattle.dogwood_syntax.proofs.classes.is_space.Reads as is-space-reads
-use Rattle.dogwood_syntax.proofs.classes.is_word.Reads as is-word-reads
 
 enum-told : tie.Need-enum-told
 enum-told c = search needs

@@ -10,10 +10,6 @@ use Rattle.dogwood_syntax.specs.Run.{runEnd}
 use Rattle.dogwood_syntax.proofs.Run.{run-byte, run-done, run-out}
 use Rattle.dogwood_syntax.proofs.runs.take_digits.Statement.{statement}
 use Rattle.dogwood_syntax.proofs.runs.take_digits.Tie as tie
-use Rattle.dogwood_syntax.proofs.runs.take_digits.Reads as reads
-use Rattle.dogwood_syntax.proofs.runs.take_digits.Lts as lts
-use Rattle.dogwood_syntax.proofs.classes.is_digit.Reads as is-digit-reads
-use Rattle.dogwood_syntax.proofs.runs.take_while.Reads as take-while-reads
 
 abbrev Inv-loop : tie.InvT-loop
 Inv-loop s at i₀ i = runEnd Digit s i ≡ runEnd Digit s at

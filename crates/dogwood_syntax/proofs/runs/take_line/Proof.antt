@@ -10,10 +10,6 @@ use Rattle.dogwood_syntax.specs.Run.{runEnd}
 use Rattle.dogwood_syntax.proofs.Run.{run-byte, run-done, run-out}
 use Rattle.dogwood_syntax.proofs.runs.take_line.Statement.{statement}
 use Rattle.dogwood_syntax.proofs.runs.take_line.Tie as tie
-use Rattle.dogwood_syntax.proofs.runs.take_line.Reads as reads
-use Rattle.dogwood_syntax.proofs.runs.take_line.Lts as lts
-use Rattle.dogwood_syntax.proofs.classes.is_line.Reads as is-line-reads
-use Rattle.dogwood_syntax.proofs.runs.take_while.Reads as take-while-reads
 
 abbrev Inv-loop : tie.InvT-loop
 Inv-loop s at i₀ i = runEnd Line s i ≡ runEnd Line s at

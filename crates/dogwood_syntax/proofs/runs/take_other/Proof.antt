@@ -10,10 +10,6 @@ use Rattle.dogwood_syntax.specs.Run.{runEnd}
 use Rattle.dogwood_syntax.proofs.Run.{run-byte, run-done, run-out}
 use Rattle.dogwood_syntax.proofs.runs.take_other.Statement.{statement}
 use Rattle.dogwood_syntax.proofs.runs.take_other.Tie as tie
-use Rattle.dogwood_syntax.proofs.runs.take_other.Reads as reads
-use Rattle.dogwood_syntax.proofs.runs.take_other.Lts as lts
-use Rattle.dogwood_syntax.proofs.classes.is_other.Reads as is-other-reads
-use Rattle.dogwood_syntax.proofs.runs.take_while.Reads as take-while-reads
 
 abbrev Inv-loop : tie.InvT-loop
 Inv-loop s at i₀ i = runEnd Other s i ≡ runEnd Other s at

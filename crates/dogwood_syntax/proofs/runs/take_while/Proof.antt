@@ -1,5 +1,5 @@
 use borrow.Author.Needs.{needs}
-use Prim.Native.Nat.{_-_, _+_}
+use Prim.Native.Nat.{_-_}
 use mathlib.Core.Path.{_≡_, refl, sym, _∙_}
 use native.Mathlib.Omega.{arith}
 use lib.ListN.{length}
@@ -9,10 +9,6 @@ use Rattle.dogwood_syntax.specs.Run.{runEnd}
 use Rattle.dogwood_syntax.proofs.Run.{run-on, run-off, run-cut}
 use Rattle.dogwood_syntax.proofs.runs.take_while.Statement.{statement}
 use Rattle.dogwood_syntax.proofs.runs.take_while.Tie as tie
-use Rattle.dogwood_syntax.proofs.runs.take_while.Reads as reads
-use Rattle.dogwood_syntax.proofs.runs.take_while.Lts as lts
-use Rattle.dogwood_syntax.proofs.runs.is_class.Reads as is-class-reads
-use Rattle.utf8.proofs.decode.Reads as decode-reads
 
 abbrev Inv-loop : tie.InvT-loop
 Inv-loop s at k i₀ i = runEnd k s i ≡ runEnd k s at

@@ -10,10 +10,6 @@ use Rattle.dogwood_syntax.specs.Run.{runEnd}
 use Rattle.dogwood_syntax.proofs.Run.{run-byte, run-done, run-out}
 use Rattle.dogwood_syntax.proofs.runs.take_word.Statement.{statement}
 use Rattle.dogwood_syntax.proofs.runs.take_word.Tie as tie
-use Rattle.dogwood_syntax.proofs.runs.take_word.Reads as reads
-use Rattle.dogwood_syntax.proofs.runs.take_word.Lts as lts
-use Rattle.dogwood_syntax.proofs.classes.is_word.Reads as is-word-reads
-use Rattle.dogwood_syntax.proofs.runs.take_while.Reads as take-while-reads
 
 abbrev Inv-loop : tie.InvT-loop
 Inv-loop s at i₀ i = runEnd Word s i ≡ runEnd Word s at

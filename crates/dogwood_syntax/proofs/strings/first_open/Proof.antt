@@ -2,19 +2,13 @@ use Prim.Native.Nat.{_+_, _-_}
 use mathlib.Core.Path.{_≡_, refl, sym, ap, _∙_}
 use native.Mathlib.Omega.{arith}
 use borrow.Author.Needs.{needs}
-use lib.ListN.{length, getD}
+use lib.ListN.{length}
 use Rattle.utf8.proofs.Inside.{inside}
 use Rattle.dogwood_syntax.specs.Scan.{scanFrom}
 use Rattle.dogwood_syntax.proofs.Bounds.{string-inside}
 use Rattle.dogwood_syntax.proofs.Scan.{open-scan, scan-out, scan-fault, byte-closed, byte-open, byte-comment, comment-inside, byte-past, wide-past}
 use Rattle.dogwood_syntax.proofs.strings.first_open.Statement.{statement}
 use Rattle.dogwood_syntax.proofs.strings.first_open.Tie as tie
-use Rattle.dogwood_syntax.proofs.strings.first_open.Reads as reads
-use Rattle.dogwood_syntax.proofs.strings.first_open.Lts as lts
-use Rattle.dogwood_syntax.proofs.runs.take_line.Reads as take-line-reads
-use Rattle.dogwood_syntax.proofs.strings.string_end.Reads as string-end-reads
-use Rattle.utf8.proofs.byte.Reads as byte-reads
-use Rattle.utf8.proofs.decode.Reads as decode-reads
 
 abbrev Inv-loop : tie.InvT-loop
 Inv-loop s i₀ i = scanFrom s i ≡ scanFrom s 0

@@ -2,16 +2,13 @@ use Prim.Native.Nat.{_+_, _-_}
 use mathlib.Core.Path.{_≡_, refl, sym, ap, _∙_}
 use native.Mathlib.Omega.{arith}
 use borrow.Author.Needs.{needs}
-use lib.ListN.{length, getD}
+use lib.ListN.{length}
 use Rattle.utf8.proofs.Inside.{plain}
 use Rattle.utf8.proofs.Reading.{end-fault}
 use Rattle.dogwood_syntax.specs.Run.{stringEnd}
 use Rattle.dogwood_syntax.proofs.Run.{string-out, string-close, string-past, string-escape, string-open}
 use Rattle.dogwood_syntax.proofs.strings.string_end.Statement.{statement}
 use Rattle.dogwood_syntax.proofs.strings.string_end.Tie as tie
-use Rattle.dogwood_syntax.proofs.strings.string_end.Reads as reads
-use Rattle.dogwood_syntax.proofs.strings.string_end.Lts as lts
-use Rattle.dogwood_syntax.proofs.strings.string_rest.Reads as string-rest-reads
 
 abbrev Inv-loop : tie.InvT-loop
 Inv-loop s at i₀ i = stringEnd s i ≡ stringEnd s at

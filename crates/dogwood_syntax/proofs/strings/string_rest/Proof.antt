@@ -8,9 +8,6 @@ use Rattle.dogwood_syntax.specs.Run.{stringEnd}
 use Rattle.dogwood_syntax.proofs.Run.{string-cut, string-close, string-past, string-escape, string-open}
 use Rattle.dogwood_syntax.proofs.strings.string_rest.Statement.{statement}
 use Rattle.dogwood_syntax.proofs.strings.string_rest.Tie as tie
-use Rattle.dogwood_syntax.proofs.strings.string_rest.Reads as reads
-use Rattle.dogwood_syntax.proofs.strings.string_rest.Lts as lts
-use Rattle.utf8.proofs.decode.Reads as decode-reads
 
 abbrev Inv-loop : tie.InvT-loop
 Inv-loop s at i₀ i = stringEnd s i ≡ stringEnd s at

@@ -1,8 +1,6 @@
 use Rattle.dogwood_syntax.proofs.SymbolLaws.{by-pairs}
 use Rattle.dogwood_syntax.proofs.symbols.is_double.Statement.{statement}
 use Rattle.dogwood_syntax.proofs.symbols.is_double.Tie as tie
-use Rattle.dogwood_syntax.proofs.symbols.is_double.Reads as reads
-use Rattle.dogwood_syntax.proofs.symbols.is_double.Lts as lts
 
 returns : tie.Need-returns
 returns c = by-pairs (c .args .a) (c .args .b)

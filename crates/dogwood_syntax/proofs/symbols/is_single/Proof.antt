@@ -2,9 +2,6 @@ use Rattle.dogwood_syntax.proofs.SymbolLaws.{by-ranges}
 use borrow.Author.Needs.{needs}
 use Rattle.dogwood_syntax.proofs.symbols.is_single.Statement.{statement}
 use Rattle.dogwood_syntax.proofs.symbols.is_single.Tie as tie
-use Rattle.dogwood_syntax.proofs.symbols.is_single.Reads as reads
-use Rattle.dogwood_syntax.proofs.symbols.is_single.Lts as lts
-use Rattle.dogwood_syntax.proofs.classes.is_in.Reads as is-in-reads
 
 is-in-requires : tie.Need-is-in-requires
 is-in-requires c κs = search needs

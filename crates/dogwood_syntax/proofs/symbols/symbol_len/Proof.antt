@@ -2,10 +2,6 @@ use Rattle.dogwood_syntax.specs.Token.{symbolLen}
 use borrow.Author.Needs.{needs}
 use Rattle.dogwood_syntax.proofs.symbols.symbol_len.Statement.{statement}
 use Rattle.dogwood_syntax.proofs.symbols.symbol_len.Tie as tie
-use Rattle.dogwood_syntax.proofs.symbols.symbol_len.Reads as reads
-use Rattle.dogwood_syntax.proofs.symbols.symbol_len.Lts as lts
-use Rattle.dogwood_syntax.proofs.symbols.is_double.Reads as is-double-reads
-use Rattle.dogwood_syntax.proofs.symbols.is_single.Reads as is-single-reads
 
 is-double-requires : tie.Need-is-double-requires
 is-double-requires c κs = search needs

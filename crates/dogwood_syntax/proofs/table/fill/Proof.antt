@@ -15,11 +15,6 @@ use Rattle.dogwood_syntax.proofs.Steps.{next-onward, next-token, next-b
 use Rattle.dogwood_syntax.proofs.Tokens.{put-on, put-length, length-words}
 use Rattle.dogwood_syntax.proofs.table.fill.Statement.{statement}
 use Rattle.dogwood_syntax.proofs.table.fill.Tie as tie
-use Rattle.dogwood_syntax.proofs.table.fill.Reads as reads
-use Rattle.dogwood_syntax.proofs.table.fill.Lts as lts
-use Rattle.dogwood_syntax.proofs.cursor.Cursor.new.Reads as new-reads
-use Rattle.dogwood_syntax.proofs.cursor.Cursor.next.Reads as next-reads
-use Rattle.dogwood_syntax.proofs.table.put.Reads as put-reads
 
 abbrev Inv-loop : tie.InvT-loop
 Inv-loop text table₀ cursor₀ n₀ table cursor n =

@@ -1,5 +1,4 @@
 use Prim.Native.Nat.{_+_, _*_}
-use mathlib.Core.Path.{_≡_, refl, sym, _∙_}
 use mathlib.Core.List.{[]}
 use native.Mathlib.Omega.{arith}
 use borrow.Author.Tests.{le-leb, lt-leb}
@@ -8,8 +7,6 @@ use Rattle.dogwood_syntax.proofs.Tokens.{stored}
 use borrow.Author.Needs.{needs}
 use Rattle.dogwood_syntax.proofs.table.put.Statement.{statement}
 use Rattle.dogwood_syntax.proofs.table.put.Tie as tie
-use Rattle.dogwood_syntax.proofs.table.put.Reads as reads
-use Rattle.dogwood_syntax.proofs.table.put.Lts as lts
 
 mul-k : tie.Need-mul-k
 mul-k c = search needs

@@ -1,5 +1,3 @@
-use Prim.Native.Nat.{_+_}
-use mathlib.Core.Path.{_≡_, sym}
 use native.Mathlib.Omega.{arith}
 use borrow.Author.Tests.{lt-ltb, le-ltb}
 use lib.ListN.{length}
@@ -10,9 +8,6 @@ use Rattle.dogwood_syntax.proofs.Tokens.{tokens-few}
 use borrow.Author.Needs.{needs}
 use Rattle.dogwood_syntax.proofs.table.shortage.Statement.{statement}
 use Rattle.dogwood_syntax.proofs.table.shortage.Tie as tie
-use Rattle.dogwood_syntax.proofs.table.shortage.Reads as reads
-use Rattle.dogwood_syntax.proofs.table.shortage.Lts as lts
-use Rattle.dogwood_syntax.proofs.table.count.Reads as count-reads
 
 returns : tie.Need-returns
 unfolding shortOf

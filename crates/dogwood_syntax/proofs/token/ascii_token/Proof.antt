@@ -5,19 +5,6 @@ use Rattle.dogwood_syntax.proofs.SymbolLaws.{symbol-most}
 use borrow.Author.Needs.{needs}
 use Rattle.dogwood_syntax.proofs.token.ascii_token.Statement.{statement}
 use Rattle.dogwood_syntax.proofs.token.ascii_token.Tie as tie
-use Rattle.dogwood_syntax.proofs.token.ascii_token.Reads as reads
-use Rattle.dogwood_syntax.proofs.token.ascii_token.Lts as lts
-use Rattle.dogwood_syntax.proofs.classes.is_digit.Reads as is-digit-reads
-use Rattle.dogwood_syntax.proofs.classes.is_letter.Reads as is-letter-reads
-use Rattle.dogwood_syntax.proofs.classes.is_space.Reads as is-space-reads
-use Rattle.dogwood_syntax.proofs.runs.take_digits.Reads as take-digits-reads
-use Rattle.dogwood_syntax.proofs.runs.take_line.Reads as take-line-reads
-use Rattle.dogwood_syntax.proofs.runs.take_other.Reads as take-other-reads
-use Rattle.dogwood_syntax.proofs.runs.take_spaces.Reads as take-spaces-reads
-use Rattle.dogwood_syntax.proofs.runs.take_word.Reads as take-word-reads
-use Rattle.dogwood_syntax.proofs.strings.string_end.Reads as string-end-reads
-use Rattle.dogwood_syntax.proofs.symbols.symbol_len.Reads as symbol-len-reads
-use Rattle.utf8.proofs.byte.Reads as byte-reads
 
 is-space-requires : tie.Need-is-space-requires
 is-space-requires c κs = search needs

@@ -1,4 +1,4 @@
-use mathlib.Core.Path.{_≡_, refl, sym, ap, _∙_}
+use mathlib.Core.Path.{refl, sym, ap, _∙_}
 use native.Mathlib.Omega.{arith}
 use Rattle.utf8.proofs.Inside.{plain}
 use Rattle.utf8.proofs.Reading.{end-fault}
@@ -6,10 +6,6 @@ use Rattle.dogwood_syntax.specs.Token.{lexeme, tokenAt}
 use borrow.Author.Needs.{needs}
 use Rattle.dogwood_syntax.proofs.token.token_at.Statement.{statement}
 use Rattle.dogwood_syntax.proofs.token.token_at.Tie as tie
-use Rattle.dogwood_syntax.proofs.token.token_at.Reads as reads
-use Rattle.dogwood_syntax.proofs.token.token_at.Lts as lts
-use Rattle.dogwood_syntax.proofs.token.ascii_token.Reads as ascii-token-reads
-use Rattle.dogwood_syntax.proofs.token.wide_token.Reads as wide-token-reads
 
 returns : tie.Need-returns
 unfolding tokenAt

@@ -1,6 +1,6 @@
 use Prim.Native.Nat.{_+_}
 use lib.ListN.{getD}
-use mathlib.Core.Path.{_≡_, sym, ap, _∙_}
+use mathlib.Core.Path.{sym, ap, _∙_}
 use Rattle.utf8.proofs.Reading.{wide-at}
 use Rattle.dogwood_syntax.specs.declared.token.Lexeme.the-variants.{Token}
 use Rattle.dogwood_syntax.specs.Token.{lexeme, tokenAt}
@@ -8,11 +8,6 @@ use Rattle.dogwood_syntax.proofs.Wide.{wide-space, wide-other}
 use borrow.Author.Needs.{needs}
 use Rattle.dogwood_syntax.proofs.token.wide_token.Statement.{statement}
 use Rattle.dogwood_syntax.proofs.token.wide_token.Tie as tie
-use Rattle.dogwood_syntax.proofs.token.wide_token.Reads as reads
-use Rattle.dogwood_syntax.proofs.token.wide_token.Lts as lts
-use Rattle.dogwood_syntax.proofs.classes.is_space.Reads as is-space-reads
-use Rattle.dogwood_syntax.proofs.runs.take_while.Reads as take-while-reads
-use Rattle.utf8.proofs.decode.Reads as decode-reads
 
 decode-requires : tie.Need-decode-requires
 decode-requires c κs = search needs

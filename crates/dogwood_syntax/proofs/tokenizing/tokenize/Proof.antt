@@ -1,4 +1,4 @@
-use Prim.Native.Nat.{ℕ, _-_}
+use Prim.Native.Nat.{ℕ}
 use mathlib.Core.Path.{_≡_, sym, ap, _∙_}
 use mathlib.Core.List.{List}
 use native.Mathlib.Omega.{arith}
@@ -12,11 +12,6 @@ use Rattle.dogwood_syntax.proofs.Promise.{long-kept, bad-kept, text-kep
 use borrow.Author.Needs.{needs}
 use Rattle.dogwood_syntax.proofs.tokenizing.tokenize.Statement.{statement}
 use Rattle.dogwood_syntax.proofs.tokenizing.tokenize.Tie as tie
-use Rattle.dogwood_syntax.proofs.tokenizing.tokenize.Reads as reads
-use Rattle.dogwood_syntax.proofs.tokenizing.tokenize.Lts as lts
-use Rattle.dogwood_syntax.proofs.tokenizing.tokenize_text.Reads as tokenize-text-reads
-use Rattle.utf8.proofs.first_bad.Reads as first-bad-reads
-use Rattle.utf8.proofs.split_bom.Reads as split-bom-reads
 
 -- what was found in the text
 found : (c : tie.After-first-bad)

@@ -1,5 +1,5 @@
 use Prim.Native.Nat.{_/_}
-use mathlib.Core.Path.{_≡_, refl, sym, _∙_}
+use mathlib.Core.Path.{sym, _∙_}
 use native.Mathlib.Omega.{arith}
 use lib.ListN.{length}
 use Rattle.dogwood_rules.specs.Answer.{wordsOf}
@@ -8,11 +8,6 @@ use Rattle.dogwood_syntax.proofs.Tokens.{short-some, short-none, length
 use borrow.Author.Needs.{needs}
 use Rattle.dogwood_syntax.proofs.tokenizing.tokenize_text.Statement.{statement}
 use Rattle.dogwood_syntax.proofs.tokenizing.tokenize_text.Tie as tie
-use Rattle.dogwood_syntax.proofs.tokenizing.tokenize_text.Reads as reads
-use Rattle.dogwood_syntax.proofs.tokenizing.tokenize_text.Lts as lts
-use Rattle.dogwood_syntax.proofs.strings.first_open.Reads as first-open-reads
-use Rattle.dogwood_syntax.proofs.table.fill.Reads as fill-reads
-use Rattle.dogwood_syntax.proofs.table.shortage.Reads as shortage-reads
 
 first-open-requires : tie.Need-first-open-requires
 first-open-requires c κs = search needs

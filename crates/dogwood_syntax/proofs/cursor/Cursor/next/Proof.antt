@@ -3,9 +3,6 @@ use Rattle.dogwood_syntax.proofs.Walks.{next-is}
 use borrow.Author.Needs.{needs}
 use Rattle.dogwood_syntax.proofs.cursor.Cursor.next.Statement.{statement}
 use Rattle.dogwood_syntax.proofs.cursor.Cursor.next.Tie as tie
-use Rattle.dogwood_syntax.proofs.cursor.Cursor.next.Reads as reads
-use Rattle.dogwood_syntax.proofs.cursor.Cursor.next.Lts as lts
-use Rattle.dogwood_syntax.proofs.token.token_at.Reads as token-at-reads
 
 token-at-requires : tie.Need-token-at-requires
 token-at-requires c κs = search needs
