@@ -1,0 +1,12 @@
+pub mod SymbolLaws
+pub mod Run
+pub mod Bounds
+pub mod Tokens
+pub mod Onwards
+pub mod Front
+pub mod Seam
+pub mod Promise
+pub mod Walks
+pub mod Steps
+pub mod Wide
+pub mod Scan

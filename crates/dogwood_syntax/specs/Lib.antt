@@ -1,0 +1,8 @@
+pub mod Class
+pub mod Run
+pub mod Token
+pub mod Scan
+pub mod Cursor
+pub mod Tokens
+pub mod Table
+pub mod Numbers

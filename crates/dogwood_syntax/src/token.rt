@@ -1,0 +1,110 @@
+// One token at a place: the first of the seven rules that applies decides.
+ghost use mathlib.Core.Path.{_≡_};
+ghost use Prim.Native.Nat.{_+_, _≤_, _<_};
+ghost use lib.ListN.{length, getD};
+ghost use Rattle.dogwood_syntax.specs.Token.{begins, tokenAt};
+use crate::classes::is_digit;
+use crate::classes::is_letter;
+use crate::classes::is_space;
+use crate::runs::Class;
+use crate::runs::take_digits;
+use crate::runs::take_line;
+use crate::runs::take_other;
+use crate::runs::take_spaces;
+use crate::runs::take_while;
+use crate::runs::take_word;
+use crate::strings::string_end;
+use crate::symbols::symbol_len;
+use utf8::Decoded;
+use utf8::Found;
+
+// What stands at a place: a token of a kind, with its end; a string without end; or no character.
+pub(crate) enum Lexeme {
+    Token { kind: u32, end: usize },
+    NoEnd,
+    End,
+}
+
+// The token that the byte a at a place begins, if a is a character.
+fn ascii_token(s: &[u8], at: usize, a: u8) -> Lexeme
+    requires { ⌜ at < length (now s) ⌝ }
+    ensures { λ r. ⌜ r ≡ begins (now (s .entry)) at a (getD (now (s .entry)) (at + 1) 0) ⌝ }
+{
+    let code = a as u32;
+    if is_space(code) {
+        return Lexeme::Token {
+            kind: 0,
+            end: take_spaces(s, at),
+        };
+    }
+    if code == 0x22 {
+        let Found::At(end) = string_end(s, at + 1) else {
+            return Lexeme::NoEnd;
+        };
+        return Lexeme::Token { kind: 2, end };
+    }
+    let next = utf8::byte(s, at + 1);
+    if (code == 0x2F) & (next == 0x2F) {
+        return Lexeme::Token {
+            kind: 1,
+            end: take_line(s, at),
+        };
+    }
+    if is_letter(code) {
+        return Lexeme::Token {
+            kind: 3,
+            end: take_word(s, at),
+        };
+    }
+    if is_digit(code) {
+        return Lexeme::Token {
+            kind: 4,
+            end: take_digits(s, at),
+        };
+    }
+    let n = symbol_len(code, next);
+    if 0 < n {
+        return Lexeme::Token {
+            kind: 5,
+            end: at + n,
+        };
+    }
+    Lexeme::Token {
+        kind: 6,
+        end: take_other(s, at),
+    }
+}
+
+// The token that a character of several bytes begins: white space or an Other.
+fn wide_token(s: &[u8], at: usize) -> Lexeme
+    requires { ⌜ 128 ≤ getD (now s) at 0 ⌝ }
+    ensures { λ r. ⌜ r ≡ tokenAt (now (s .entry)) at ⌝ }
+{
+    let Decoded::Char { code, len: _ } = utf8::decode(s, at) else {
+        return Lexeme::End;
+    };
+    if is_space(code) {
+        return Lexeme::Token {
+            kind: 0,
+            end: take_while(s, at, Class::Space),
+        };
+    }
+    Lexeme::Token {
+        kind: 6,
+        end: take_while(s, at, Class::Other),
+    }
+}
+
+// The token at a place.
+pub(crate) fn token_at(s: &[u8], at: usize) -> Lexeme
+    ensures { λ r. ⌜ r ≡ tokenAt (now (s .entry)) at ⌝ }
+{
+    if s.len() <= at {
+        return Lexeme::End;
+    }
+    let a = s[at];
+    if 0x80 <= a {
+        return wide_token(s, at);
+    }
+    ascii_token(s, at, a)
+}

@@ -1,0 +1,90 @@
+// Tokenises each record of the file that the first argument names, and writes a line for each: number, value and every word of the table.
+// A record: the source's bytes and the table's words, as two words low byte first; then the source.
+use dogwood_syntax::Tokenized;
+use libc::STDOUT_FILENO;
+
+struct Answer {
+    number: u64,
+    value: usize,
+}
+
+fn answer_of(t: Tokenized) -> Answer {
+    match t {
+        Tokenized::Done(n) => Answer {
+            number: 0,
+            value: n,
+        },
+        Tokenized::Unended(i) => Answer {
+            number: 1,
+            value: i,
+        },
+        Tokenized::TooLong => Answer {
+            number: 11,
+            value: 0,
+        },
+        Tokenized::NotUtf8(i) => Answer {
+            number: 12,
+            value: i,
+        },
+        Tokenized::Small(n) => Answer {
+            number: 13,
+            value: n,
+        },
+    }
+}
+
+fn wide(x: u32) -> u64 {
+    x as u64
+}
+
+fn print_words(words: &[u32]) {
+    for i in 0..words.len() {
+        io::write_all(STDOUT_FILENO, b" ");
+        io::print_decimal(STDOUT_FILENO, wide(words[i]));
+    }
+}
+
+fn run(source: &[u8], table: &mut [u32]) {
+    let a = answer_of(dogwood_syntax::tokenize(source, table));
+    io::print_decimal(STDOUT_FILENO, a.number);
+    io::write_all(STDOUT_FILENO, b" ");
+    io::print_decimal(STDOUT_FILENO, a.value as u64);
+    print_words(table);
+    io::write_all(STDOUT_FILENO, b"\n");
+}
+
+// Reads one record and runs it; answers false where there is none.
+fn one(fd: i32) -> bool {
+    let mut head = [0u8; 8];
+    if files::read_part(fd, &mut head, 8) != 8 {
+        return false;
+    }
+    let size = files::word(&head, 0) as usize;
+    let room = files::word(&head, 4) as usize;
+    let mut source = io::buffer();
+    let n = files::read_part(fd, &mut source, size);
+    let mut table = [4294967295u32; 12291];
+    if 12291 < room {
+        return false;
+    }
+    run(&source[..n], &mut table[0..room]);
+    true
+}
+
+fn all(fd: i32) {
+    let mut turns = u64::MAX;
+    while turns > 0 && one(fd) {
+        turns -= 1;
+    }
+}
+
+fn main() {
+    let mut path = io::buffer();
+    let n = os::arg(1, &mut path);
+    let fd = os::open_read(&path[..n]);
+    if fd < 0 {
+        io::write_all(STDOUT_FILENO, b"no records\n");
+        return;
+    }
+    all(fd);
+}
