@@ -10,8 +10,8 @@ use lib.ListN.{take, getD}
 use lib.Dec.{eqb, ltb}
 use Rattle.dogwood_rules.specs.Basic.{if_then_else_, runLength}
 use Rattle.dogwood_rules.specs.Utf8.{size, byteLength}
-use Rattle.dogwood_rules.specs.Token as R
 use Rattle.dogwood_rules.specs.Token.{white, letter, digit, wordly, single, double, lineEnd, other, next, closing, piece, stringPiece, token, kindNumber, Whitespace, Comment, Identifier, Number}
+use Rattle.dogwood_rules.specs.Token as R
 use Rattle.dogwood_rules.proofs.Runs.{run-more}
 use Rattle.utf8.specs.Utf8.{decodeAt}
 use Rattle.utf8.specs.declared.Decoded.the-variants.{Char}

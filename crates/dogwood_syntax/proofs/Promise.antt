@@ -4,15 +4,16 @@ use mathlib.Core.Path.{_≡_, refl, sym, ap, _∙_}
 use mathlib.Core.Bool.{Bool, true, false}
 use mathlib.Core.List.{List, [], _∷_}
 use native.Mathlib.Omega.{arith}
-use borrow.Author.Tests.{lt-ltb, le-ltb, ltb-true, ltb-false, ne-eqb}
+use borrow.Author.Tests.{ltb-true, ltb-false}
 use lib.ListN.{length, length-append}
 use lib.Dec.{ltb}
-use Rattle.dogwood_rules.specs.Utf8.{decode, encode, byteLength}
-use Rattle.dogwood_rules.specs.Token as R
-use Rattle.dogwood_rules.specs.Token.{Placed, placed, tokenise}
-use Rattle.dogwood_rules.specs.Answer.{markOf, textOf, wordsOf}
-use Rattle.dogwood_rules.specs.Tokenising.{Tokenised, stopped, listed, ended, readable, tokenised}
+use Rattle.dogwood_rules.specs.Utf8.{decode, encode, byteLength, markOf, textOf}
+use Rattle.dogwood_rules.specs.Token.{Placed, placed, tokenise, wordsOf}
+use Rattle.dogwood_rules.specs.Source.{Source, cutInto, sourceOf}
+use Rattle.dogwood_rules.specs.Alone.{Alone, stopped, told, total, tokenised}
+use Rattle.dogwood_rules.proofs.Sources.{source-long, source-bad, source-open, source-cut}
 use Rattle.dogwood_rules.specs.Contracts.{Tokenises, over}
+use Rattle.dogwood_rules.specs.Token as R
 use Rattle.dogwood_rules.proofs.Decoding.{decode-sound}
 use Rattle.utf8.specs.Told.{leftAt}
 use Rattle.utf8.specs.declared.Found.the-variants.{At, Nothing}
@@ -26,11 +27,11 @@ use Rattle.dogwood_syntax.proofs.Tokens.{answer-open, answer-small, ans
 use Rattle.dogwood_syntax.proofs.Seam.{open-seam, placed-seam}
 
 -- an answer of the rules, held against what was answered
-keeps : (s t : List ℕ) (a : Tokenised) (n v : ℕ) (t′ : List ℕ) → tokenised s (length t) ≡ a → n ≡ a .number → v ≡ a .value → t′ ≡ over (a .table) t → Tokenises s t n v t′
+keeps : (s t : List ℕ) (a : Alone) (n v : ℕ) (t′ : List ℕ) → tokenised s (length t) ≡ a → n ≡ a .number → v ≡ a .value → t′ ≡ over (a .table) t → Tokenises s t n v t′
 keeps s t a n v t′ e p q r = record {
-  numbered = p ∙ ap (λ (x : Tokenised). x .number) (sym e);
-  valued = q ∙ ap (λ (x : Tokenised). x .value) (sym e);
-  tabled = r ∙ ap (λ (x : Tokenised). over (x .table) t) (sym e);
+  numbered = p ∙ ap (λ (x : Alone). x .number) (sym e);
+  valued = q ∙ ap (λ (x : Alone). x .value) (sym e);
+  tabled = r ∙ ap (λ (x : Alone). over (x .table) t) (sym e);
 }
 
 -- the place of what is left lies within the text
@@ -38,19 +39,20 @@ pub left-inside : (l : ℕ) (bs : List ℕ) (i : ℕ) → leftAt l bs ≡ At i �
 left-inside l [] i e = absurd (let z : _≡_ {A = ℕ} 0 1 = cc in omega arith)
 left-inside l (b ∷ bs) i e = let z : l - length (b ∷ bs) ≡ i = cc in omega arith
 
+-- what is told of a source
+from-source : (s : List ℕ) (room : ℕ) {x : Source} → sourceOf s ≡ x → tokenised s room ≡ told room total x
+unfolding tokenised
+from-source s room e = ap (told room total) e
+
 -- 11
 pub long-kept : (s t : List ℕ) → 1048576 < length s → Tokenises s t 11 0 t
-unfolding tokenised stopped
-long-kept s t h = keeps s t (stopped 11 0) 11 0 t (simp (lt-ltb _ _ h)) refl refl refl
+unfolding told stopped
+long-kept s t h = keeps s t (stopped 11 0) 11 0 t (from-source s (length t) (source-long s h)) refl refl refl
 
 module _ (s t : List ℕ) (h : length s ≤ 1048576) where
-  short : tokenised s (length t) ≡ readable s (length t) (decode (textOf s))
-  unfolding tokenised
-  short = simp (le-ltb _ _ h)
-
   -- 12
   pub bad-kept : (i : ℕ) → leftAt (length (textOf s)) (decode (textOf s) .1) ≡ At i → Tokenises s t 12 (length (markOf s) + i) t
-  unfolding readable stopped
+  unfolding told stopped
   bad-kept i e = by (decode (textOf s) .1) refl e
     where
       by : (l : List ℕ) → decode (textOf s) .1 ≡ l → leftAt (length (textOf s)) l ≡ At i → Tokenises s t 12 (length (markOf s) + i) t
@@ -62,9 +64,7 @@ module _ (s t : List ℕ) (h : length s ≤ 1048576) where
           let w = ap length (decode-sound (textOf s) .whole) in
           let x = length-append (encode (decode (textOf s) .0)) (decode (textOf s) .1) in
           let z = ap length k in
-          keeps s t (stopped 12 (length s - length (b ∷ l))) 12 (length (markOf s) + i) t
-          (short ∙ rw k (simp (ne-eqb (length (b ∷ l)) 0 (λ (e : length (b ∷ l) ≡ 0). omega arith))))
-          refl (omega arith) refl
+          keeps s t (stopped 12 (length s - length (b ∷ l))) 12 (length (markOf s) + i) t (from-source s (length t) (source-bad s h b l k)) refl (omega arith) refl
 
   -- 1, 13, 0
   module _ (e : decode (textOf s) .1 ≡ []) (a : Tokenized) (p : a ≡ answer (textOf s) (length t)) (t′ : List ℕ) (r : t′ ≡ tableAfter (textOf s) t) where
@@ -78,30 +78,26 @@ module _ (s t : List ℕ) (h : length s ≤ 1048576) where
     ps : List Placed
     ps = placed 0 (tokenise cs .0)
 
-    read : tokenised s (length t) ≡ ended s (length t) (tokenise cs)
-    unfolding readable
-    read = short ∙ ap (readable s (length t)) good
-
     -- what the code answered, and the table that it left
-    answered : (b : Tokenized) (x : Tokenised) → answer (textOf s) (length t) ≡ b → tokenised s (length t) ≡ x → number b ≡ x .number → value b ≡ x .value
+    answered : (b : Tokenized) (x : Alone) → answer (textOf s) (length t) ≡ b → tokenised s (length t) ≡ x → number b ≡ x .number → value b ≡ x .value
         → filled b (wordsOf (tokensAt (textOf s) 0)) t ≡ over (x .table) t → Tokenises s t (number a) (value a) t′
     answered b x q k n v f =
         keeps s t x (number a) (value a) t′ k (ap number (p ∙ q) ∙ n) (ap value (p ∙ q) ∙ v) (r ∙ table-of (textOf s) t q ∙ f)
 
     open-kept : (c : ℕ) (l : List ℕ) → tokenise cs .1 ≡ c ∷ l → Tokenises s t (number a) (value a) t′
-    unfolding ended stopped
+    unfolding told stopped cs
     open-kept c l m =
         answered (Unended (length (textOf s) - byteLength (c ∷ l))) (stopped 1 (length (textOf s) - byteLength (c ∷ l)))
         (answer-open (textOf s) (length t) (open-seam (textOf s) cs good ∙ ap (openAt (length (textOf s))) m))
-        (read ∙ rw m (simp (ne-eqb (length (c ∷ l)) 0 (λ (e : length (c ∷ l) ≡ 0). omega arith))))
+        (from-source s (length t) (source-open s h e c l m))
         refl refl refl
 
     fit-kept : tokenise cs .1 ≡ [] → Tokenises s t (number a) (value a) t′
-    unfolding ended listed stopped ps
+    unfolding told total stopped ps cs
     fit-kept m = by (ltb (length t) (3 * length ps)) refl
       where
-        all : tokenised s (length t) ≡ listed s (length t) ps
-        all = read ∙ rw m refl
+        all : tokenised s (length t) ≡ told (length t) total (cutInto ps)
+        all = from-source s (length t) (source-cut s h e m)
 
         none : openFrom (textOf s) 0 ≡ Nothing
         none = open-seam (textOf s) cs good ∙ ap (openAt (length (textOf s))) m

@@ -8,8 +8,8 @@ use native.Mathlib.Nat.{add-zero, zero-add}
 use lib.ListN.{length, drop}
 use Rattle.dogwood_rules.specs.Basic.{cut, cutAfter}
 use Rattle.dogwood_rules.specs.Utf8.{decode, byteLength}
-use Rattle.dogwood_rules.specs.Token as R
 use Rattle.dogwood_rules.specs.Token.{Placed, placed, token, tokenise, kindNumber}
+use Rattle.dogwood_rules.specs.Token as R
 use Rattle.dogwood_rules.proofs.Cutting.{cut-step, cut-stop}
 use Rattle.dogwood_rules.proofs.Rules.{rule-of}
 use Rattle.utf8.specs.Walk.{stop, go}

@@ -6,9 +6,8 @@ use native.Mathlib.Omega.{arith}
 use lib.ListN.{length, drop}
 use Rattle.dogwood_rules.specs.Basic.{cut, cutAfter}
 use Rattle.dogwood_rules.specs.Utf8.{decode, byteLength}
+use Rattle.dogwood_rules.specs.Token.{Placed, placed, tokenise, kindNumber, wordsOf}
 use Rattle.dogwood_rules.specs.Token as R
-use Rattle.dogwood_rules.specs.Token.{Placed, placed, tokenise, kindNumber}
-use Rattle.dogwood_rules.specs.Answer.{wordsOf}
 use Rattle.utf8.proofs.Reading.{reads-at, reads-only}
 use Rattle.dogwood_syntax.specs.declared.token.Lexeme.{Lexeme}
 use Rattle.dogwood_syntax.specs.declared.token.Lexeme.the-variants as L

@@ -11,8 +11,7 @@ use native.Mathlib.Nat.{zero-add}
 use borrow.Author.Tests.{lt-leb, le-leb, ltb-true, ltb-false}
 use mathlib.Core.List.{_++_}
 use native.Mathlib.Numerals.{towards-suc}
-use Rattle.dogwood_rules.specs.Token.{Placed}
-use Rattle.dogwood_rules.specs.Answer.{wordsOf}
+use Rattle.dogwood_rules.specs.Token.{Placed, wordsOf}
 use Rattle.dogwood_syntax.specs.Cursor.{tokensAt}
 use Rattle.dogwood_syntax.specs.Table.{shortOf}
 use Rattle.utf8.specs.Walk.{stop, go}

@@ -8,8 +8,8 @@ use native.Mathlib.Nat.{add-zero, zero-add}
 use lib.ListN.{length}
 use Rattle.dogwood_rules.specs.Basic.{cut, cutAfter}
 use Rattle.dogwood_rules.specs.Utf8.{decode, byteLength}
-use Rattle.dogwood_rules.specs.Token as R
 use Rattle.dogwood_rules.specs.Token.{placed, token, tokenise}
+use Rattle.dogwood_rules.specs.Token as R
 use Rattle.utf8.specs.Walk.{stop, go}
 use Rattle.utf8.specs.declared.Decoded.{Decoded}
 use Rattle.utf8.proofs.Walk.{from-ind, stop≢go}

@@ -5,8 +5,8 @@ use mathlib.Core.List.{List, [], _∷_}
 use mathlib.Core.Option.{Option, none, some}
 use lib.ListN.{drop}
 use Rattle.dogwood_rules.specs.Utf8.{decode, byteLength}
-use Rattle.dogwood_rules.specs.Token as R
 use Rattle.dogwood_rules.specs.Token.{Placed, placed, token, tokenise, kindNumber}
+use Rattle.dogwood_rules.specs.Token as R
 use Rattle.dogwood_syntax.specs.declared.cursor.Cursor.{Cursor as CursorOf}
 use Rattle.dogwood_syntax.specs.declared.cursor.Step.{Step}
 use Rattle.dogwood_syntax.specs.declared.cursor.Step.the-variants.{Token, Unended, Ended}

@@ -6,7 +6,7 @@ use mathlib.Core.List.{List, [], _∷_}
 use lib.Dec.{ltb}
 use lib.ListN.{length}
 use lib.Seq.{sets}
-use Rattle.dogwood_rules.specs.Answer.{wordsOf}
+use Rattle.dogwood_rules.specs.Token.{wordsOf}
 use Rattle.utf8.specs.declared.Found.{Found}
 use Rattle.utf8.specs.declared.Found.the-variants.{At, Nothing}
 use Rattle.dogwood_syntax.specs.declared.cursor.Token.{Token}

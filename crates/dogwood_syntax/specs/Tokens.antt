@@ -5,8 +5,7 @@ use mathlib.Core.Bool.{cond}
 use lib.ListN.{length, drop}
 use lib.Dec.{leb}
 use Rattle.dogwood_rules.specs.Utf8.{byteLength}
-use Rattle.dogwood_rules.specs.Token.{Placed, kindNumber}
-use Rattle.dogwood_rules.specs.Answer.{wordsOf}
+use Rattle.dogwood_rules.specs.Token.{Placed, kindNumber, wordsOf}
 use Rattle.utf8.specs.Walk.{Next, stop, go, from}
 use Rattle.utf8.specs.declared.Found.{Found}
 use Rattle.utf8.specs.declared.Found.the-variants.{At, Nothing}

@@ -5,7 +5,7 @@ ghost use lib.Dec.{leb};
 ghost use lib.ListN.{length};
 ghost use lib.Seq.{sets};
 ghost use mathlib.Core.Bool.{cond};
-ghost use Rattle.dogwood_rules.specs.Answer.{wordsOf};
+ghost use Rattle.dogwood_rules.specs.Token.{wordsOf};
 ghost use Rattle.dogwood_syntax.specs.Cursor.{tokensAt};
 ghost use Rattle.dogwood_syntax.specs.Table.{recordOf, Filled, shortOf};
 use crate::cursor::Cursor;

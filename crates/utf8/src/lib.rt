@@ -3,7 +3,7 @@ ghost use mathlib.Core.Path.{_≡_};
 ghost use Prim.Native.Nat.{_+_, _≤_};
 ghost use mathlib.Core.Bool.{true};
 ghost use lib.ListN.{length, getD};
-ghost use Rattle.dogwood_rules.specs.Answer.{markOf};
+ghost use Rattle.dogwood_rules.specs.Utf8.{markOf};
 ghost use Rattle.dogwood_rules.specs.Utf8.{decode};
 ghost use Rattle.utf8.specs.Told.{leftAt};
 ghost use Rattle.utf8.specs.Valid.{badFrom};

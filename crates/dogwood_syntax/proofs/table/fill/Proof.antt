@@ -6,10 +6,9 @@ use lib.ListN.{length}
 use lib.Seq.{sets}
 use lib.Dec.{leb}
 use mathlib.Core.List.{List}
-use Rattle.dogwood_rules.specs.Token.{Placed}
+use Rattle.dogwood_rules.specs.Token.{Placed, wordsOf}
 use Rattle.dogwood_syntax.specs.Table.{recordOf}
 use borrow.Author.Needs.{needs}
-use Rattle.dogwood_rules.specs.Answer.{wordsOf}
 use Rattle.dogwood_syntax.specs.Cursor.{tokensAt}
 use Rattle.dogwood_syntax.proofs.Steps.{next-onward, next-token, next-bounds, words-next, next-ended, next-unended}
 use Rattle.dogwood_syntax.proofs.Tokens.{put-on, put-length, length-words}

@@ -3,8 +3,7 @@ use mathlib.Core.Path.{_≡_, sym, ap, _∙_}
 use mathlib.Core.List.{List}
 use native.Mathlib.Omega.{arith}
 use lib.ListN.{length}
-use Rattle.dogwood_rules.specs.Utf8.{decode}
-use Rattle.dogwood_rules.specs.Answer.{textOf}
+use Rattle.dogwood_rules.specs.Utf8.{decode, textOf}
 use Rattle.utf8.specs.Told.{leftAt}
 use Rattle.utf8.proofs.Mark.{mark-inside, length-text, text-of}
 use Rattle.dogwood_syntax.specs.Tokens.{answer, tableAfter}

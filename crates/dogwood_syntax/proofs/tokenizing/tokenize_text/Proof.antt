@@ -2,7 +2,7 @@ use Prim.Native.Nat.{_/_}
 use mathlib.Core.Path.{sym, _∙_}
 use native.Mathlib.Omega.{arith}
 use lib.ListN.{length}
-use Rattle.dogwood_rules.specs.Answer.{wordsOf}
+use Rattle.dogwood_rules.specs.Token.{wordsOf}
 use Rattle.dogwood_syntax.specs.Cursor.{tokensAt}
 use Rattle.dogwood_syntax.proofs.Tokens.{short-some, short-none, length-words, sets-front, answer-open, answer-small, answer-done, table-of}
 use borrow.Author.Needs.{needs}
