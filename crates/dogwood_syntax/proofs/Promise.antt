@@ -11,8 +11,8 @@ use Rattle.dogwood_rules.specs.Utf8.{decode, encode, byteLength, markOf, textOf
 use Rattle.dogwood_rules.specs.Token.{Placed, placed, tokenise, wordsOf}
 use Rattle.dogwood_rules.specs.Source.{Source, cutInto, sourceOf}
 use Rattle.dogwood_rules.specs.Alone.{Alone, stopped, told, total, tokenised}
-use Rattle.dogwood_rules.proofs.Sources.{source-long, source-bad, source-open, source-cut}
 use Rattle.dogwood_rules.specs.Contracts.{Tokenises, over}
+use Rattle.dogwood_rules.proofs.Sources.{source-long, source-bad, source-open, source-cut}
 use Rattle.dogwood_rules.specs.Token as R
 use Rattle.dogwood_rules.proofs.Decoding.{decode-sound}
 use Rattle.utf8.specs.Told.{leftAt}
