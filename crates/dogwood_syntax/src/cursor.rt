@@ -37,7 +37,7 @@ impl Cursor {
     {
         let at = self.at;
         match token_at(text, at) {
-            Lexeme::Token { kind, end } => {
+            Lexeme::Token(kind, end) => {
                 Step::Token(
                     Token {
                         kind,

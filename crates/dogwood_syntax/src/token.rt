@@ -20,7 +20,8 @@ use utf8::Found;
 
 // What stands at a place: a token of a kind, with its end; a string without end; or no character.
 pub(crate) enum Lexeme {
-    Token { kind: u32, end: usize },
+    // Its kind, and where it ends.
+    Token(u32, usize),
     NoEnd,
     End,
 }
@@ -32,47 +33,29 @@ fn ascii_token(s: &[u8], at: usize, a: u8) -> Lexeme
 {
     let code = a as u32;
     if is_space(code) {
-        return Lexeme::Token {
-            kind: 0,
-            end: take_spaces(s, at),
-        };
+        return Lexeme::Token(0, take_spaces(s, at));
     }
     if code == 0x22 {
         let Found::At(end) = string_end(s, at + 1) else {
             return Lexeme::NoEnd;
         };
-        return Lexeme::Token { kind: 2, end };
+        return Lexeme::Token(2, end);
     }
     let next = utf8::byte(s, at + 1);
     if (code == 0x2F) & (next == 0x2F) {
-        return Lexeme::Token {
-            kind: 1,
-            end: take_line(s, at),
-        };
+        return Lexeme::Token(1, take_line(s, at));
     }
     if is_letter(code) {
-        return Lexeme::Token {
-            kind: 3,
-            end: take_word(s, at),
-        };
+        return Lexeme::Token(3, take_word(s, at));
     }
     if is_digit(code) {
-        return Lexeme::Token {
-            kind: 4,
-            end: take_digits(s, at),
-        };
+        return Lexeme::Token(4, take_digits(s, at));
     }
     let n = symbol_len(code, next);
     if 0 < n {
-        return Lexeme::Token {
-            kind: 5,
-            end: at + n,
-        };
+        return Lexeme::Token(5, at + n);
     }
-    Lexeme::Token {
-        kind: 6,
-        end: take_other(s, at),
-    }
+    Lexeme::Token(6, take_other(s, at))
 }
 
 // The token that a character of several bytes begins: white space or an Other.
@@ -84,15 +67,9 @@ fn wide_token(s: &[u8], at: usize) -> Lexeme
         return Lexeme::End;
     };
     if is_space(code) {
-        return Lexeme::Token {
-            kind: 0,
-            end: take_while(s, at, Class::Space),
-        };
+        return Lexeme::Token(0, take_while(s, at, Class::Space));
     }
-    Lexeme::Token {
-        kind: 6,
-        end: take_while(s, at, Class::Other),
-    }
+    Lexeme::Token(6, take_while(s, at, Class::Other))
 }
 
 // The token at a place.
