@@ -1,0 +1,17 @@
+pub mod Bools
+pub mod Spans
+pub mod PartsPass
+pub mod OnePass
+pub mod Symbols
+pub mod Took
+pub mod Texts
+pub mod GapSteps
+pub mod SearchSteps
+pub mod KindOf
+pub mod Words
+pub mod PartTurns
+pub mod RecordTurns
+pub mod Deep
+pub mod Comments
+pub mod Judgements
+pub mod Outcomes

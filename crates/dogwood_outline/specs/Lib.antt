@@ -1,0 +1,6 @@
+pub mod Brackets
+pub mod Records
+pub mod Pass
+pub mod Search
+pub mod Verdicts
+pub mod Numbers

@@ -1,0 +1,43 @@
+// Answers 4, 2, 3 and 5, in this order, of a text that stands behind its mark.
+ghost use mathlib.Core.Path.{_≡_};
+ghost use Rattle.dogwood_outline.specs.Verdicts.{number, place, Judges};
+use crate::fitting::fit;
+use crate::searches::deep_opener;
+use crate::searches::first_comment;
+use crate::searches::nothing_there;
+use utf8::Found;
+
+// What stands between a text with its outline and its layout.
+pub enum Verdict {
+    // The outline does not fit.
+    Misfit,
+    // Where the first comment inside a statement begins.
+    Remarked(usize),
+    // There is no statement and no comment.
+    Empty,
+    // The first opener that is nested too deep.
+    Deep(usize),
+    Fine,
+}
+
+// Judges any bytes and any words: of bytes that are no UTF-8, or have a string without end, by the tokens before that place.
+pub fn judge(text: &[u8], outline: &[u32]) -> Verdict
+    ensures { λ r. ⌜ Judges (now (text .entry)) (now (outline .entry)) (number r) (place r) ⌝ }
+{
+    if !fit(text, outline) {
+        return Verdict::Misfit;
+    }
+    match first_comment(text, outline) {
+        Found::At(place) => {
+            return Verdict::Remarked(place);
+        }
+        Found::Nothing => {}
+    }
+    if nothing_there(text, outline) {
+        return Verdict::Empty;
+    }
+    match deep_opener(text) {
+        Found::At(place) => Verdict::Deep(place),
+        Found::Nothing => Verdict::Fine,
+    }
+}
