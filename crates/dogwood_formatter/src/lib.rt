@@ -1,5 +1,8 @@
-// The layout of a token run, written into the rest of the output.
+// The layout of a token run and of a whole file, written into the rest of the output.
+mod feeds;
+mod file;
 mod lay;
+mod remark;
 mod run;
 mod shown;
 mod span;
