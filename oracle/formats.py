@@ -6,6 +6,8 @@
             -> as tokens
   calls     source length, outline words, table words, output room; source, outline
             -> `number place length`, LF, the whole output, LF, the table's words, LF
+  readings  as tokens
+            -> each reading and a `;`, in one line: `kind start end`, up to the first that is none of these, and that one twice: `end` or `number place`
 
 Tables are filled with 4294967295 and outputs with 7E before the call, so that what must stay as it was is seen.
 """
@@ -37,6 +39,20 @@ def tokens(source, room):
     return Record(packed(len(source), room) + source, line([number, value] + words_after(table, room)), (source, room))
 
 
+def shown(got):
+    """A reading as a program writes it."""
+    words = {"token": got[1:], "ended": ("end",)}.get(got[0], got)
+    return " ".join(map(str, words)) + ";"
+
+
+def readings(source, room):
+    reader, got = reading.Reader(source), []
+    while not got or got[-1][0] == "token":
+        got.append(reader.reading())
+    got.append(reader.reading())
+    return Record(packed(len(source), room) + source, "".join(map(shown, got)).encode() + b"\n", (source, room))
+
+
 def outlines(source, outline, room):
     number, value, table = reading.testing(source, outline, room)
     asked = packed(len(source), len(outline), room) + source + packed(*outline)
@@ -53,7 +69,7 @@ def calls(source, outline, table_room, output_room):
 
 
 HEADS = {
-    "tokens": ["source bytes", "table words"], "outlines": ["source bytes", "outline words", "table words"],
+    "tokens": ["source bytes", "table words"], "readings": ["source bytes", "table words"], "outlines": ["source bytes", "outline words", "table words"],
     "calls": ["source bytes", "outline words", "table words", "output bytes"],
 }
 
@@ -62,6 +78,12 @@ def largest(name, records):
     """The most that each number at the front of a record comes to: what a program must have room for."""
     heads = [struct.unpack_from(f"<{len(HEADS[name])}I", record.asked) for record in records]
     return ", ".join(f"{max(values)} {what}" for what, values in zip(HEADS[name], zip(*heads)))
+
+
+def number(name, record):
+    """What a record is answered with: the first word, or of readings that of the last."""
+    answer = record.due.split(b";")[-2] if name == "readings" else record.due
+    return answer.split(maxsplit=1)[0].decode()
 
 
 def upto_line_end(data, at):
@@ -78,7 +100,7 @@ def written_call(data, at, record):
 
 
 # where a program's answer to a record ends
-ENDS = {"tokens": written_line, "outlines": written_line, "calls": written_call}
+ENDS = {"tokens": written_line, "readings": written_line, "outlines": written_line, "calls": written_call}
 
 
 def differences(name, records, data):

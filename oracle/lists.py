@@ -7,6 +7,7 @@ import os
 import random
 import sys
 
+import expected
 import formats
 import generate
 import programs
@@ -73,9 +74,25 @@ def rooms_around(index, need):
 
 def tokens_list(host):
     sources = list(token_sources())
-    cases = [generate.Case(source, [], 80, 2) for source in sources]
-    answers = programs.agreed(host, cases)
+    answers = programs.agreed(host, [generate.Case(source, [], 80, 2) for source in sources])
     return [formats.tokens(source, rooms_around(index, len(answer.table))) for index, (source, answer) in enumerate(zip(sources, answers))]
+
+
+def upto_open(source):
+    """A source up to its string without end: of the whole the Rust tells that string's place and no token."""
+    number, place, _ = reading.tokenising(source, expected.NO_LIMIT)
+    return source[:len(reading.split_mark(source)[0]) + place] if number == 1 else source
+
+
+def readings_list(host):
+    records = [formats.readings(record.what[0], record.what[1]) for record in tokens_list(host)]
+    cut = [upto_open(record.what[0]) for record in records]
+    programs.agreed(host, [generate.Case(source, [], 80, 2) for source in cut])
+    for source, record in zip(cut, records):
+        tokens = formats.readings(source, 0).due.removesuffix(b"end;end;\n")
+        if not record.due.startswith(tokens):
+            raise SystemExit(f"oracle: the readings of {record.what[0]!r} do not begin with the tokens before its string without end")
+    return records
 
 
 # Outlines ---------------------------------------------------------------------------------------------------------
@@ -255,7 +272,7 @@ def calls_list(host):
     return found
 
 
-LISTS = {"tokens": tokens_list, "outlines": outlines_list, "calls": calls_list}
+LISTS = {"tokens": tokens_list, "readings": readings_list, "outlines": outlines_list, "calls": calls_list}
 
 
 def write(path, parts):
@@ -274,10 +291,10 @@ def main(arguments, usage):
         print("record: without the Rust nothing is recorded", file=sys.stderr)
         return 1
     records = LISTS[arguments[0]](host)
-    numbers = sorted({int(record.due.split(maxsplit=1)[0]) for record in records})
+    numbers = " ".join(sorted({formats.number(arguments[0], record) for record in records}))
     asked = write(os.path.join(arguments[1], "data", "cases"), (record.asked for record in records))
     due = write(os.path.join(arguments[1], "stdout"), (record.due for record in records))
-    print(f"{arguments[0]}: {len(records)} records of {asked} bytes, {due} bytes due, numbers {numbers}")
+    print(f"{arguments[0]}: {len(records)} records of {asked} bytes, {due} bytes due, answers {numbers}")
     print(f"  at most {formats.largest(arguments[0], records)}")
     if asked > MOST_BYTES:
         print(f"record: the cases are more than {MOST_BYTES} bytes", file=sys.stderr)

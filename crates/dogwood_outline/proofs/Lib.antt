@@ -15,3 +15,4 @@ pub mod Deep
 pub mod Comments
 pub mod Judgements
 pub mod Outcomes
+pub mod Answers
