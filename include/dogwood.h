@@ -17,6 +17,11 @@ extern "C" {
  * the number of tokens; after every other number the table is as it was and *place_or_total is the place, or for 13 the tokens needed. */
 uint32_t dogwood_tokenize(const uint8_t *source, size_t source_len, uint32_t *table, size_t table_words, uint64_t *place_or_total);
 
+/* Testing an outline alone: 11, 12, 1, 13, then 4, else 0. After 4 and 0 the table begins with the text's tokens and *place is 0; after the others
+ * it is as with tokenising alone. */
+uint32_t dogwood_test_outline(
+    const uint8_t *source, size_t source_len, const uint32_t *outline, size_t outline_words, uint32_t *table, size_t table_words, uint64_t *place);
+
 #ifdef __cplusplus
 }
 #endif
