@@ -1,14 +1,14 @@
 -- A text without the white space at its right: the loop that finds where it ends, and its bytes.
-use mathlib.Core.Path.{_≡_, refl, sym, _∙_, ap, subst}
+use mathlib.Core.Path.{_≡_, refl, sym, _∙_, ap}
 use mathlib.Core.Bool.{Bool, true, false, not}
 use mathlib.Core.List.{List, [], _∷_, _++_, append-nil, append-assoc}
 use mathlib.Core.Option.{Option, none, some}
 use Prim.Native.Nat.{ℕ, suc, _+_, _-_, _<_, _≤_}
 use native.Mathlib.Omega.{arith}
-use lib.ListN.{length, take, drop, getD, length-append, length-take, length-drop, drop-of-length-le}
+use lib.ListN.{length, take, drop, getD, length-append, length-drop, drop-of-length-le}
 use lib.Seq.{drop-cons, drop-drop, take-append-seam}
 use Rattle.dogwood_rules.specs.Basic.{if_then_else_, orDrop, dropBack, cut, cutAfter}
-use Rattle.dogwood_rules.specs.Utf8.{bytesOf, size, character, encode, decode, byteLength}
+use Rattle.dogwood_rules.specs.Utf8.{bytesOf, character, encode, decode, byteLength}
 use Rattle.dogwood_rules.specs.Token.{white}
 use Rattle.dogwood_rules.proofs.Below.{not-true}
 use Rattle.dogwood_rules.proofs.Cutting.{cut-stop}
@@ -17,7 +17,6 @@ use Rattle.dogwood_rules.proofs.Decoding.{character-sound, decode-sound}
 use Rattle.dogwood_rules.proofs.Wholes.{encode-length, length-more}
 use Rattle.utf8.specs.Told.{told}
 use Rattle.utf8.specs.Utf8.{decodeAt}
-use Rattle.utf8.specs.declared.Decoded.{Decoded}
 use Rattle.utf8.specs.declared.Decoded.the-variants.{Char, Fault}
 use Rattle.utf8.proofs.Inside.{inside}
 use Rattle.dogwood_formatter.proofs.Bytes.{encode-append}

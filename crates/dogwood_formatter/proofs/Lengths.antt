@@ -31,24 +31,24 @@ use Rattle.dogwood_formatter.proofs.Lays.{lines-add, one-some, first-pi
 use Rattle.dogwood_formatter.proofs.Groups.{item-none, item-line, broken-made, Outcome, stays, breaks, outcome}
 use Rattle.dogwood_formatter.proofs.Laying.{margin-bound, encode-line}
 
-abbrev bytes : List ℕ → ℕ
+abbrev pub bytes : List ℕ → ℕ
 bytes cs = length (encode cs)
 
-bytes-append : (xs ys : List ℕ) → bytes (xs ++ ys) ≡ bytes xs + bytes ys
+pub bytes-append : (xs ys : List ℕ) → bytes (xs ++ ys) ≡ bytes xs + bytes ys
 bytes-append xs ys = ap length (encode-append xs ys) ∙ length-append (encode xs) (encode ys)
 
 -- Tokens ------------------------------------------------------------------------------------------------------------
 
 -- no token is longer than a text
-data AllShort : List Token → Type 0 where
+pub data AllShort : List Token → Type 0 where
   short-end : AllShort []
   short-more : {t : Token} {ts : List Token} → bytes (shown t) ≤ 1048576 → AllShort ts → AllShort (t ∷ ts)
 
-short-front : (ts us : List Token) → AllShort (ts ++ us) → AllShort ts
+pub short-front : (ts us : List Token) → AllShort (ts ++ us) → AllShort ts
 short-front [] us a = short-end
 short-front (t ∷ ts) us (short-more h a) = short-more h (short-front ts us a)
 
-short-back : (ts us : List Token) → AllShort (ts ++ us) → AllShort us
+pub short-back : (ts us : List Token) → AllShort (ts ++ us) → AllShort us
 short-back [] us a = a
 short-back (t ∷ ts) us (short-more h a) = short-back ts us a
 
@@ -82,7 +82,7 @@ token-short {text} {e} h k = go (eqb (e .kind) 0) refl
         let i = h .inside in
         omega arith
 
-short-tokens : (text ws : List ℕ) → Holds text ws → length text ≤ 1048576 → AllShort (tokens text ws)
+pub short-tokens : (text ws : List ℕ) → Holds text ws → length text ≤ 1048576 → AllShort (tokens text ws)
 unfolding Holds tokens
 short-tokens text [] h k = short-end
 short-tokens text (a ∷ []) h k = absurd h
@@ -239,6 +239,10 @@ module _ (S : Settings) (small : S .indent ≤ 1024) where
   walk-short : (n : ℕ) → WalkShort n
   walk-short zero r s a l d col k = walk-none r s a l d col k
   walk-short (suc n) r s a l d col k = walk-more n (λ u v w x e f y. walk-short n u v w x e f y) r s a l d col k
+
+-- a whole run's layout, with an LF to spare on each side
+pub run-short : (p : Page) → p .indent ≤ 1024 → (ts : List Token) → Formed ts → AllShort ts → length ts ≤ 4194304 → bytes (layout (settings p) 0 ts) ≤ 17179869184 * length ts - 4294967297
+run-short p small ts f a h = layout-short (settings p) small (length ts) (walk-short (settings p) small (length ts)) 0 (omega arith) ts f a (omega arith)
 
 -- what lay_out has to count
 module _ (p : Page) (d : ℕ) (text ws : List ℕ) (r : Ready text ws) (f : Formed (tokens text ws)) (b : Bounded p d (length ws)) where

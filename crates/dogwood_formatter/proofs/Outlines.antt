@@ -6,20 +6,20 @@ use mathlib.Core.Option.{Option, none, some}
 use Prim.Native.Nat.{ℕ, zero, suc, _+_, _-_, _*_, _<_, _≤_, min}
 use native.Mathlib.Numerals.{add-one, add-two, add-three}
 use native.Mathlib.Omega.{arith}
-use lib.ListN.{length, take, drop, getD, length-take, length-drop, drop-of-length-le}
+use lib.ListN.{length, take, drop, getD, length-drop, drop-of-length-le}
 use lib.Seq.{drop-cons, drop-drop}
 use borrow.Rule.Slice.PartMut.{putMid}
 use Rattle.pen.specs.Over.{cap, Wrote}
 use Rattle.pen.proofs.Laws.{wrote-nil, wrote-same}
 use Rattle.dogwood_rules.specs.Basic.{if_then_else_, cut, cutAfter}
 use Rattle.dogwood_rules.specs.Utf8.{encode}
-use Rattle.dogwood_rules.specs.Token.{Token, Placed, tokens as tokensAt}
+use Rattle.dogwood_rules.specs.Token.{Token, tokens as tokensAt}
 use Rattle.dogwood_rules.specs.Tree.{comment}
 use Rattle.dogwood_rules.specs.Outline.{Span, Statement, addSpan, spans, withParts, statement, statements, upTo, from, within, beyond, partsOf}
 use Rattle.dogwood_rules.specs.Layout.{Settings}
 use Rattle.dogwood_rules.specs.File.{Piece, remark, laid, remarks, pieces, pieceText, joinPieces}
 use Rattle.dogwood_rules.proofs.Cutting.{cut-step, cut-stop}
-use Rattle.dogwood_rules.proofs.Files.{AllParts, sane-laid, AllSane, sane-more}
+use Rattle.dogwood_rules.proofs.Files.{wordsAll, AllParts, sane-laid, AllSane, sane-more}
 use Rattle.dogwood_formatter.specs.declared.lay.Page.{Page}
 use Rattle.dogwood_formatter.specs.View.{tokens, Holds, Ready}
 use Rattle.dogwood_formatter.specs.Pieces.{Bounded}
@@ -133,13 +133,14 @@ statement-at outline o h e = go (statement (getD outline o 0 ∷ drop (suc o) ou
 -- A statement with the comments before it -----------------------------------------------------------------------------------------
 
 -- behind some comments, what can be laid out: a statement, and what follows it
-record SaneLaid (parts : List (List Token)) (ps : List Piece) : Type 0 where
-  laidOut : AllParts parts
-  rest : AllSane ps
+pub record SaneLaid (parts : List (List Token)) (ps : List Piece) : Type 0 where
+  pub laidOut : AllParts parts
+  pub full : wordsAll parts ≡ [] → ⊥
+  pub rest : AllSane ps
 
-sane-statement : (ts : List Token) {parts : List (List Token)} {ps : List Piece} → AllSane (remarks ts ++ laid parts ∷ ps) → SaneLaid parts ps
+pub sane-statement : (ts : List Token) {parts : List (List Token)} {ps : List Piece} → AllSane (remarks ts ++ laid parts ∷ ps) → SaneLaid parts ps
 unfolding remarks
-sane-statement [] (sane-more (sane-laid a f) s) = record { laidOut = a; rest = s }
+sane-statement [] (sane-more (sane-laid a f) s) = record { laidOut = a; full = f; rest = s }
 sane-statement (t ∷ ts) {parts} {ps} s = go (comment t) (λ u. sane-statement ts u) s
   where
     go : (b : Bool) → (AllSane (remarks ts ++ laid parts ∷ ps) → SaneLaid parts ps) → AllSane ((if b then remark t ∷ remarks ts else remarks ts) ++ laid parts ∷ ps) → SaneLaid parts ps

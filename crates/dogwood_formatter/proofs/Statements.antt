@@ -6,7 +6,7 @@ use Prim.Native.Nat.{ℕ, suc, _+_, _-_, _*_, _<_, _≤_, min}
 use native.Mathlib.Numerals.{add-one, add-two}
 use native.Mathlib.Omega.{arith}
 use lib.Dec.{leb, ltb}
-use lib.ListN.{length, take, drop, getD, replicate, length-take, length-drop, drop-of-length-le}
+use lib.ListN.{length, take, drop, getD, replicate, length-drop, drop-of-length-le}
 use lib.Seq.{drop-cons, drop-drop}
 use borrow.Author.Tests.{ltb-true, ltb-false}
 use borrow.Rule.Slice.PartMut.{putMid}
@@ -15,7 +15,7 @@ use Rattle.pen.proofs.Laws.{wrote-nil, wrote-same}
 use Rattle.dogwood_rules.specs.Basic.{if_then_else_, trim, runLength}
 use Rattle.dogwood_rules.specs.Utf8.{encode}
 use Rattle.dogwood_rules.specs.Token.{Token, Placed, spell, tokens as tokensAt}
-use Rattle.dogwood_rules.specs.Tree.{blank, joined, Run, nothing, tokensOf, runOf, trimRun}
+use Rattle.dogwood_rules.specs.Tree.{blank, joined, nothing, tokensOf, runOf, trimRun}
 use Rattle.dogwood_rules.specs.Outline.{Span, upTo, from, within, beyond, partsOf}
 use Rattle.dogwood_rules.specs.Layout.{Settings, walk, layout}
 use Rattle.dogwood_rules.specs.File.{laid, addLine, partLines, pieceText}
@@ -30,7 +30,7 @@ use Rattle.dogwood_formatter.specs.Shape.{Formed}
 use Rattle.dogwood_formatter.specs.View.{tokens, Holds, Ready}
 use Rattle.dogwood_formatter.specs.Ends.{Whole, frontLen}
 use Rattle.dogwood_formatter.specs.Choice.{filledOf}
-use Rattle.dogwood_formatter.specs.Pieces.{settings, Bounded}
+use Rattle.dogwood_formatter.specs.Pieces.{Bounded}
 use Rattle.dogwood_formatter.specs.Places.{entries, beforeLen, pairs, Paired}
 use Rattle.dogwood_formatter.specs.Feeds.{behind, dueLines, linesDue, Due}
 use Rattle.dogwood_formatter.proofs.Bytes.{encode-append}

@@ -22,7 +22,7 @@ ghost use Rattle.dogwood_formatter.specs.Ends.{Whole};
 ghost use Rattle.dogwood_formatter.specs.View.{tokens, Ready};
 ghost use Rattle.dogwood_formatter.specs.Pieces.{settings, Bounded};
 ghost use Rattle.dogwood_formatter.specs.Places.{entries, beforeLen, pairs, Paired};
-ghost use Rattle.dogwood_formatter.specs.Feeds.{behind, dueLines, linesDue, dueRemarks, remarksDue, Due};
+ghost use Rattle.dogwood_formatter.specs.Feeds.{behind, dueLines, linesDue, dueRemarks, remarksDue, Due, LaidFile};
 
 // How many words of a table stand for tokens that start before a place.
 fn until(table: &[u32], place: u32) -> usize
@@ -109,7 +109,7 @@ pub(crate) fn lay_file(
     page: Page,
 ) -> usize
     requires { ⌜ Ready (now text) (now table) × (statements (now outline) .1 ≡ []) × AllSane (pieces (statements (now outline) .0) (entries (now text) (now table))) × Bounded page 0 (length (now table)) ⌝ }
-    ensures { λ r. ⌜ Wrote (now (out .entry)) (encode (joinPieces (settings page) (pieces (statements (now (outline .entry)) .0) (entries (now (text .entry)) (now (table .entry)))))) r (now (out .exit)) ⌝ }
+    ensures { λ r. ⌜ LaidFile (joinPieces (settings page) (pieces (statements (now (outline .entry)) .0) (entries (now (text .entry)) (now (table .entry))))) (now (out .entry)) r (now (out .exit)) ⌝ }
 {
     let mut n: usize = 0;
     let mut feeds: usize = 0;

@@ -2,6 +2,7 @@
 mod feeds;
 mod file;
 mod lay;
+mod offer;
 mod remark;
 mod run;
 mod shown;

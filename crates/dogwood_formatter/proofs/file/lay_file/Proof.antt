@@ -8,6 +8,7 @@ use Rattle.dogwood_formatter.specs.Pieces.{settings}
 use Rattle.dogwood_formatter.proofs.Tables.{ready-rest}
 use Rattle.dogwood_formatter.proofs.Statements.{cut-here, rest-whole}
 use Rattle.dogwood_formatter.proofs.Outlines.{statement-at, FileAt, file-start, next-parts, next-paired, next-before, next-own, next-bounded, file-turn, file-last}
+use Rattle.dogwood_formatter.proofs.Totals.{file-laid}
 use Rattle.dogwood_formatter.proofs.file.lay_file.Statement.{statement}
 use Rattle.dogwood_formatter.proofs.file.lay_file.Tie as tie
 
@@ -368,7 +369,8 @@ same-length c = search needs
 returns : tie.Need-returns Inv-loop μ-loop
 returns c =
     let start = c .before .before .before .before .before .before .before .before .before .before .before .before .before in
-    file-last (settings (start .args .page)) (start .args .text .now) (start .args .table .now) (start .args .outline .now) (c .before .before .before .before .before .before .before .before .loop .inv .1) (omega (arith, c .before .before .before .before .before .before .before .loop-test .left)) (c .before .before .before .before .before .before .clip2 .ensures .place) (omega (arith, c .before .before .before .before .before .before .before .before .loop .inv .0, start .good)) (c .before .before .before .put-remarks .ensures) (c .add2 .ensures .sum)
+    file-laid (start .args .page) (start .args .text .now) (start .args .table .now) (start .args .outline .now) (start .pre .0) (start .pre .3) (start .pre .2)
+    (file-last (settings (start .args .page)) (start .args .text .now) (start .args .table .now) (start .args .outline .now) (c .before .before .before .before .before .before .before .before .loop .inv .1) (omega (arith, c .before .before .before .before .before .before .before .loop-test .left)) (c .before .before .before .before .before .before .clip2 .ensures .place) (omega (arith, c .before .before .before .before .before .before .before .before .loop .inv .0, start .good)) (c .before .before .before .put-remarks .ensures) (c .add2 .ensures .sum))
 
 pub lay-file-spec : {M : Type 1} → statement M
 lay-file-spec =
