@@ -1,6 +1,6 @@
 """The case files that our programs read, and what they must write for each record. All numbers are u32, low byte first.
 
-  tokens    source length, table words; source
+  tokens    source length, table words; source (of 1048576 bytes and more: all `a`, and not written out)
             -> `number value`, then each word of the table, in one line
   outlines  source length, outline words, table words; source, outline
             -> as tokens
@@ -51,6 +51,12 @@ def readings(source, room):
         got.append(reader.reading())
     got.append(reader.reading())
     return Record(packed(len(source), room) + source, "".join(map(shown, got)).encode() + b"\n", (source, room))
+
+
+def longest(size, room):
+    """A source of so many `a`, which the case file does not write out: the longest that there may be, or one byte more."""
+    number, value, table = reading.tokenising(b"a" * size, room)
+    return Record(packed(size, room), line([number, value] + words_after(table, room)), (b"", room))
 
 
 def outlines(source, outline, room):

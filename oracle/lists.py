@@ -72,10 +72,15 @@ def rooms_around(index, need):
     return max(0, need + (0, -1, 1, 2, -need, 5, 0, -2)[index % 8])
 
 
-def tokens_list(host):
+def token_records(host):
     sources = list(token_sources())
     answers = programs.agreed(host, [generate.Case(source, [], 80, 2) for source in sources])
     return [formats.tokens(source, rooms_around(index, len(answer.table))) for index, (source, answer) in enumerate(zip(sources, answers))]
+
+
+def tokens_list(host):
+    """.. and the longest source, with and without room for its token, and one byte more."""
+    return token_records(host) + [formats.longest(size, room) for size, room in ((1048576, 3), (1048576, 2), (1048577, 3), (1048577, 0))]
 
 
 def upto_open(source):
@@ -85,7 +90,7 @@ def upto_open(source):
 
 
 def readings_list(host):
-    records = [formats.readings(record.what[0], record.what[1]) for record in tokens_list(host)]
+    records = [formats.readings(record.what[0], record.what[1]) for record in token_records(host)]
     cut = [upto_open(record.what[0]) for record in records]
     programs.agreed(host, [generate.Case(source, [], 80, 2) for source in cut])
     for source, record in zip(cut, records):

@@ -1,5 +1,6 @@
 // Tokenises each record of the file that the first argument names, and writes a line for each: number, value and every word of the table.
-// A record: the source's bytes and the table's words, as two words low byte first; then the source.
+// A record: the source's bytes and the table's words, as two words low byte first; then the source. A source of more than 4,096 bytes is all `a`
+// and not written out: the longest that there may be, or one byte more.
 use dogwood_syntax::Tokenized;
 use libc::STDOUT_FILENO;
 
@@ -53,6 +54,30 @@ fn run(source: &[u8], table: &mut [u32]) {
     io::write_all(STDOUT_FILENO, b"\n");
 }
 
+const LONGEST: usize = 1048576;
+
+fn letters() -> [u8; 1048577] {
+    [97; 1048577]
+}
+
+fn run_too_long(source: &[u8; 1048577], table: &mut [u32]) {
+    run(source, table);
+}
+
+fn run_longest(source: &[u8; 1048577], table: &mut [u32]) {
+    let all: &[u8] = source;
+    run(&all[1..], table);
+}
+
+fn run_letters(size: usize, table: &mut [u32]) {
+    let source = letters();
+    if size == LONGEST {
+        run_longest(&source, table);
+    } else {
+        run_too_long(&source, table);
+    }
+}
+
 // Reads one record and runs it; answers false where there is none.
 fn one(fd: i32) -> bool {
     let mut head = [0u8; 8];
@@ -61,12 +86,16 @@ fn one(fd: i32) -> bool {
     }
     let size = files::word(&head, 0) as usize;
     let room = files::word(&head, 4) as usize;
-    let mut source = io::buffer();
-    let n = files::read_part(fd, &mut source, size);
     let mut table = [4294967295u32; 12291];
     if 12291 < room {
         return false;
     }
+    if LONGEST <= size {
+        run_letters(size, &mut table[0..room]);
+        return true;
+    }
+    let mut source = io::buffer();
+    let n = files::read_part(fd, &mut source, size);
     run(&source[..n], &mut table[0..room]);
     true
 }
