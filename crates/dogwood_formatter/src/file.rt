@@ -101,7 +101,7 @@ fn lay_next(
 }
 
 // Writes a whole file: its statements, and the comments before, between and behind them.
-pub(crate) fn lay_file(
+pub(crate) fn top_level_items(
     out: &mut [u8],
     text: &[u8],
     outline: &[u32],

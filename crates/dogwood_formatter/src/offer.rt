@@ -1,5 +1,5 @@
 // Bytes that are written whole where there is room for them, and else not at all.
-use crate::file::lay_file;
+use crate::file::top_level_items;
 use crate::lay::Page;
 use pen::put_all;
 use utf8::split_bom;
@@ -37,10 +37,10 @@ pub(crate) fn offer_file(
     ensures { λ r. ⌜ Offered (markOf (now (source .entry)) ++ encode (joinPieces (settings page) (pieces (statements (now (outline .entry)) .0) (entries (textOf (now (source .entry))) (now (table .entry)))))) (now (out .entry)) r (now (out .exit)) ⌝ }
 {
     let mark = split_bom(source);
-    let size = mark + lay_file(&mut out[0..0], &source[mark..], outline, table, page);
+    let size = mark + top_level_items(&mut out[0..0], &source[mark..], outline, table, page);
     if out.len() < size {
         return size;
     }
     put_all(out, &source[0..mark]);
-    mark + lay_file(&mut out[mark..], &source[mark..], outline, table, page)
+    mark + top_level_items(&mut out[mark..], &source[mark..], outline, table, page)
 }

@@ -22,13 +22,13 @@ use Rattle.dogwood_rules.proofs.Wholes.{source-whole}
 use Rattle.dogwood_outline.specs.Pass.{placedIn}
 use Rattle.dogwood_outline.specs.Verdicts.{nested, filled, commented, judged, Judges}
 
-module _ (S : Settings) (source outline : List ℕ) (tableRoom outputRoom : ℕ) (ps : List Placed) where
-  -- what is written: after 0 "mark if any, then layout", after 4, 2, 3 and 5 "source"
-  abbrev pub written : ℕ → List ℕ
-  written n = if eqb n 0 then markOf source ++ encode (joinPieces S (pieces (statements outline .0) ps)) else source
+-- what is written: after 0 "mark if any, then layout", after 4, 2, 3 and 5 "source"
+abbrev pub written : Settings → List ℕ → List ℕ → List Placed → ℕ → List ℕ
+written S source outline ps n = if eqb n 0 then markOf source ++ encode (joinPieces S (pieces (statements outline .0) ps)) else source
 
+module _ (S : Settings) (source outline : List ℕ) (tableRoom outputRoom : ℕ) (ps : List Placed) where
   abbrev told : ℕ × ℕ → Answer
-  told j = checked S source outline tableRoom outputRoom (j .0) (j .1) (written (j .0)) (wordsOf ps)
+  told j = checked S source outline tableRoom outputRoom (j .0) (j .1) (written S source outline ps (j .0)) (wordsOf ps)
 
   by-depth : (qs : List Piece) → pieces (statements outline .0) ps ≡ qs → (o : Option ℕ) → A.nested S source outline tableRoom outputRoom ps qs o ≡ told (nested o)
   unfolding A.nested nested
@@ -55,7 +55,7 @@ module _ (S : Settings) (source outline : List ℕ) (tableRoom outputRoom : ℕ)
 
   -- a source that is cut into tokens for which there is room: the answer has the verdict's number and place
   pub answer-judged : sourceOf source ≡ cutInto ps → 3 * length ps ≤ tableRoom → {n place : ℕ} → Judges (textOf source) outline n place
-      → answer S source outline tableRoom outputRoom ≡ checked S source outline tableRoom outputRoom n place (written n) (wordsOf ps)
+      → answer S source outline tableRoom outputRoom ≡ checked S source outline tableRoom outputRoom n place (written S source outline ps n) (wordsOf ps)
   unfolding answer answered placedIn
   answer-judged c h {n} {place} j =
       let w = source-whole source ps c in
@@ -64,7 +64,7 @@ module _ (S : Settings) (source outline : List ℕ) (tableRoom outputRoom : ℕ)
       ∙ ap (λ (b : Bool). if b then A.refused 13 (length ps) else A.fitted S source outline tableRoom outputRoom ps (fits end ps outline)) (le-ltb tableRoom (3 * length ps) h)
       ∙ by-fit
       ∙ ap (λ (qs : List Placed). told (judged end qs outline)) (w .cut)
-      ∙ (λ i. checked S source outline tableRoom outputRoom (sym (j .numbered) i) (sym (j .located) i) (written (sym (j .numbered) i)) (wordsOf ps))
+      ∙ (λ i. checked S source outline tableRoom outputRoom (sym (j .numbered) i) (sym (j .located) i) (written S source outline ps (sym (j .numbered) i)) (wordsOf ps))
 
 -- What holds where the number is 0 --------------------------------------------------------------------------------------
 

@@ -2,10 +2,11 @@
 use mathlib.Core.Path.{_≡_, refl, sym, _∙_, ap, subst}
 use mathlib.Core.Bool.{Bool, true, false}
 use mathlib.Core.List.{List}
-use Prim.Native.Nat.{ℕ, _*_}
+use Prim.Native.Nat.{ℕ, _*_, _≤_}
 use native.Mathlib.Omega.{arith}
 use lib.Dec.{ltb}
 use lib.ListN.{length}
+use borrow.Author.Tests.{ltb-false}
 use Rattle.dogwood_rules.specs.Basic.{if_then_else_}
 use Rattle.dogwood_rules.specs.Utf8.{textOf}
 use Rattle.dogwood_rules.specs.Token.{Placed}
@@ -31,12 +32,13 @@ same-refusal room f (cutInto ps) n = by (ltb room (3 * length ps)) refl
     by false e = absurd (n (simp e))
 
 -- after 0 the source is cut into tokens for which there is room
-record Cut (room : ℕ) (x : Source) : Type 0 where
-  ps : List Placed
-  is : x ≡ cutInto ps
-  tells : (f : List Placed → Alone) → told room f x ≡ f ps
+pub record Cut (room : ℕ) (x : Source) : Type 0 where
+  pub ps : List Placed
+  pub is : x ≡ cutInto ps
+  pub ample : 3 * length ps ≤ room
+  pub tells : (f : List Placed → Alone) → told room f x ≡ f ps
 
-cut-of : (room : ℕ) (x : Source) → told room total x .number ≡ 0 → Cut room x
+pub cut-of : (room : ℕ) (x : Source) → told room total x .number ≡ 0 → Cut room x
 unfolding told total stopped
 cut-of room tooLong e = absurd (omega arith)
 cut-of room (notUtf8 place) e = absurd (omega arith)
@@ -45,10 +47,10 @@ cut-of room (cutInto ps) e = by (ltb room (3 * length ps)) refl
   where
     by : (b : Bool) → ltb room (3 * length ps) ≡ b → Cut room (cutInto ps)
     by true q = absurd (let z : 13 ≡ 0 = rw q at e in omega arith)
-    by false q = record { ps = ps; is = refl; tells = λ (f : List Placed → Alone). simp q }
+    by false q = record { ps = ps; is = refl; ample = ltb-false room (3 * length ps) q; tells = λ (f : List Placed → Alone). simp q }
 
 module _ (source outline table T : List ℕ) where
-  kept-as : (x y : Tokenized) → x ≡ y → Tokenises source table (number x) (value x) T → Tokenises source table (number y) (value y) T
+  pub kept-as : (x y : Tokenized) → x ≡ y → Tokenises source table (number x) (value x) T → Tokenises source table (number y) (value y) T
   kept-as x y e t = subst (λ (z : Tokenized). Tokenises source table (number z) (value z) T) e t
 
   pub refused-kept : {x : Tokenized} (y : Tokenized) → x ≡ y → Tokenises source table (number x) (value x) T → (number y ≡ 0 → ⊥)

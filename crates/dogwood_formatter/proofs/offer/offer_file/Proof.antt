@@ -9,35 +9,35 @@ use Rattle.dogwood_formatter.proofs.offer.offer_file.Tie as tie
 split-bom-requires : tie.Need-split-bom-requires
 split-bom-requires c κs = search needs
 
-sub-lay-file : tie.Need-sub-lay-file
-sub-lay-file c = search needs
+sub-top-level-items : tie.Need-sub-top-level-items
+sub-top-level-items c = search needs
 
-part-lay-file-start : tie.Need-part-lay-file-start
-part-lay-file-start c = search needs
+part-top-level-items-start : tie.Need-part-top-level-items-start
+part-top-level-items-start c = search needs
 
-part-lay-file-end : tie.Need-part-lay-file-end
-part-lay-file-end c = search needs
+part-top-level-items-end : tie.Need-part-top-level-items-end
+part-top-level-items-end c = search needs
 
-sub-lay-file-2 : tie.Need-sub-lay-file-2
-sub-lay-file-2 c =
+sub-top-level-items-2 : tie.Need-sub-top-level-items-2
+sub-top-level-items-2 c =
     let m = mark-fits (c .before .before .before .before .before .before .args .source .now) (c .before .split-bom .ensures) in
     omega arith
 
-part-lay-file-start-2 : tie.Need-part-lay-file-start-2
-part-lay-file-start-2 c =
+part-top-level-items-start-2 : tie.Need-part-top-level-items-start-2
+part-top-level-items-start-2 c =
     let m = mark-fits (c .before .before .before .before .before .before .args .source .now) (c .before .split-bom .ensures) in
     omega arith
 
-part-lay-file-end-2 : tie.Need-part-lay-file-end-2
-part-lay-file-end-2 c = search needs
+part-top-level-items-end-2 : tie.Need-part-top-level-items-end-2
+part-top-level-items-end-2 c = search needs
 
-lay-file-requires : tie.Need-lay-file-requires
-lay-file-requires c κs = given-slice (c .before .before .before .before .before .before .before .args .source .now) (c .before .before .before .before .before .before .before .args .outline .now) (c .before .before .before .before .before .before .before .args .table .now) (c .before .before .before .before .before .before .before .args .page) (c .before .before .split-bom .ensures) (c .before .before .before .before .before .before .before .pre)
+top-level-items-requires : tie.Need-top-level-items-requires
+top-level-items-requires c κs = given-slice (c .before .before .before .before .before .before .before .args .source .now) (c .before .before .before .before .before .before .before .args .outline .now) (c .before .before .before .before .before .before .before .args .table .now) (c .before .before .before .before .before .before .before .args .page) (c .before .before .split-bom .ensures) (c .before .before .before .before .before .before .before .pre)
 
 add-size : tie.Need-add-size
 add-size c =
     let m = mark-fits (c .before .before .before .before .before .before .before .before .before .before .args .source .now) (c .before .before .before .before .before .split-bom .ensures) in
-    let s = size-small (c .before .before .before .before .before .before .before .before .before .before .args .source .now) (c .before .before .before .before .before .before .before .before .before .before .args .outline .now) (c .before .before .before .before .before .before .before .before .before .before .args .table .now) (c .before .before .before .before .before .before .before .before .before .before .args .page) (c .before .before .before .before .before .split-bom .ensures) (c .before .before .lay-file .ensures) (c .before .before .before .before .before .before .before .before .before .before .pre) in
+    let s = size-small (c .before .before .before .before .before .before .before .before .before .before .args .source .now) (c .before .before .before .before .before .before .before .before .before .before .args .outline .now) (c .before .before .before .before .before .before .before .before .before .before .args .table .now) (c .before .before .before .before .before .before .before .before .before .before .args .page) (c .before .before .before .before .before .split-bom .ensures) (c .before .before .top-level-items .ensures) (c .before .before .before .before .before .before .before .before .before .before .pre) in
     let g = c .before .before .before .before .before .before .before .before .before .before .good in
     omega arith
 
@@ -48,7 +48,7 @@ returns : tie.Need-returns
 returns c =
     let start = c .before .before .before .before .before .before .before .before .before .before .before in
     let e = c .before .before .before .before .before .before .split-bom .ensures in
-    let w = c .before .before .before .lay-file .ensures in
+    let w = c .before .before .before .top-level-items .ensures in
     let size = size-whole (start .args .source .now) (start .args .outline .now) (start .args .table .now) (start .args .page) e w in
     let same = measured-same (start .args .source .now) (start .args .outline .now) (start .args .table .now) (start .args .page) e w in
     offered-none _ _ size (omega (arith, c .if1 .taken, ap length same)) same
@@ -67,35 +67,35 @@ part-put-all-end c =
 put-all-requires : tie.Need-put-all-requires
 put-all-requires c κs = search needs
 
-sub-lay-file-3 : tie.Need-sub-lay-file-3
-sub-lay-file-3 c = search needs
+sub-top-level-items-3 : tie.Need-sub-top-level-items-3
+sub-top-level-items-3 c = search needs
 
-part-lay-file-start-3 : tie.Need-part-lay-file-start-3
-part-lay-file-start-3 c = search needs
+part-top-level-items-start-3 : tie.Need-part-top-level-items-start-3
+part-top-level-items-start-3 c = search needs
 
-part-lay-file-end-3 : tie.Need-part-lay-file-end-3
-part-lay-file-end-3 c = search needs
+part-top-level-items-end-3 : tie.Need-part-top-level-items-end-3
+part-top-level-items-end-3 c = search needs
 
-sub-lay-file-4 : tie.Need-sub-lay-file-4
-sub-lay-file-4 c =
+sub-top-level-items-4 : tie.Need-sub-top-level-items-4
+sub-top-level-items-4 c =
     let m = mark-fits (c .before .before .before .before .before .before .before .before .before .before .before .before .before .before .before .before .before .args .source .now) (c .before .before .before .before .before .before .before .before .before .before .before .before .split-bom .ensures) in
     omega arith
 
-part-lay-file-start-4 : tie.Need-part-lay-file-start-4
-part-lay-file-start-4 c =
+part-top-level-items-start-4 : tie.Need-part-top-level-items-start-4
+part-top-level-items-start-4 c =
     let m = mark-fits (c .before .before .before .before .before .before .before .before .before .before .before .before .before .before .before .before .before .args .source .now) (c .before .before .before .before .before .before .before .before .before .before .before .before .split-bom .ensures) in
     omega arith
 
-part-lay-file-end-4 : tie.Need-part-lay-file-end-4
-part-lay-file-end-4 c = search needs
+part-top-level-items-end-4 : tie.Need-part-top-level-items-end-4
+part-top-level-items-end-4 c = search needs
 
-lay-file-requires-2 : tie.Need-lay-file-requires-2
-lay-file-requires-2 c κs = given-slice (c .before .before .before .before .before .before .before .before .before .before .before .before .before .before .before .before .before .before .args .source .now) (c .before .before .before .before .before .before .before .before .before .before .before .before .before .before .before .before .before .before .args .outline .now) (c .before .before .before .before .before .before .before .before .before .before .before .before .before .before .before .before .before .before .args .table .now) (c .before .before .before .before .before .before .before .before .before .before .before .before .before .before .before .before .before .before .args .page) (c .before .before .before .before .before .before .before .before .before .before .before .before .before .split-bom .ensures) (c .before .before .before .before .before .before .before .before .before .before .before .before .before .before .before .before .before .before .pre)
+top-level-items-requires-2 : tie.Need-top-level-items-requires-2
+top-level-items-requires-2 c κs = given-slice (c .before .before .before .before .before .before .before .before .before .before .before .before .before .before .before .before .before .before .args .source .now) (c .before .before .before .before .before .before .before .before .before .before .before .before .before .before .before .before .before .before .args .outline .now) (c .before .before .before .before .before .before .before .before .before .before .before .before .before .before .before .before .before .before .args .table .now) (c .before .before .before .before .before .before .before .before .before .before .before .before .before .before .before .before .before .before .args .page) (c .before .before .before .before .before .before .before .before .before .before .before .before .before .split-bom .ensures) (c .before .before .before .before .before .before .before .before .before .before .before .before .before .before .before .before .before .before .pre)
 
 add-result : tie.Need-add-result
 add-result c =
     let m = mark-fits (c .before .before .before .before .before .before .before .before .before .before .before .before .before .before .before .before .before .before .before .before .before .args .source .now) (c .before .before .before .before .before .before .before .before .before .before .before .before .before .before .before .before .split-bom .ensures) in
-    let s = size-small (c .before .before .before .before .before .before .before .before .before .before .before .before .before .before .before .before .before .before .before .before .before .args .source .now) (c .before .before .before .before .before .before .before .before .before .before .before .before .before .before .before .before .before .before .before .before .before .args .outline .now) (c .before .before .before .before .before .before .before .before .before .before .before .before .before .before .before .before .before .before .before .before .before .args .table .now) (c .before .before .before .before .before .before .before .before .before .before .before .before .before .before .before .before .before .before .before .before .before .args .page) (c .before .before .before .before .before .before .before .before .before .before .before .before .before .before .before .before .split-bom .ensures) (c .before .before .lay-file2 .ensures) (c .before .before .before .before .before .before .before .before .before .before .before .before .before .before .before .before .before .before .before .before .before .pre) in
+    let s = size-small (c .before .before .before .before .before .before .before .before .before .before .before .before .before .before .before .before .before .before .before .before .before .args .source .now) (c .before .before .before .before .before .before .before .before .before .before .before .before .before .before .before .before .before .before .before .before .before .args .outline .now) (c .before .before .before .before .before .before .before .before .before .before .before .before .before .before .before .before .before .before .before .before .before .args .table .now) (c .before .before .before .before .before .before .before .before .before .before .before .before .before .before .before .before .before .before .before .before .before .args .page) (c .before .before .before .before .before .before .before .before .before .before .before .before .before .before .before .before .split-bom .ensures) (c .before .before .top-level-items2 .ensures) (c .before .before .before .before .before .before .before .before .before .before .before .before .before .before .before .before .before .before .before .before .before .pre) in
     let g = c .before .before .before .before .before .before .before .before .before .before .before .before .before .before .before .before .before .before .before .before .before .good in
     omega arith
 
@@ -106,8 +106,8 @@ returns-2 : tie.Need-returns-2
 returns-2 c =
     let start = c .before .before .before .before .before .before .before .before .before .before .before .before .before .before .before .before .before .before .before .before .before in
     let e = c .before .before .before .before .before .before .before .before .before .before .before .before .before .before .before .before .split-bom .ensures in
-    let first = c .before .before .before .before .before .before .before .before .before .before .before .before .before .lay-file .ensures in
-    let w = c .before .before .lay-file2 .ensures in
+    let first = c .before .before .before .before .before .before .before .before .before .before .before .before .before .top-level-items .ensures in
+    let w = c .before .before .top-level-items2 .ensures in
     let same = measured-same (start .args .source .now) (start .args .outline .now) (start .args .table .now) (start .args .page) e first in
     let old = size-whole (start .args .source .now) (start .args .outline .now) (start .args .table .now) (start .args .page) e first in
     let size = size-whole (start .args .source .now) (start .args .outline .now) (start .args .table .now) (start .args .page) e w in
@@ -121,13 +121,13 @@ offer-file-spec =
     tie.close
     (tie.spec
     split-bom-requires
-    sub-lay-file
-    part-lay-file-start
-    part-lay-file-end
-    sub-lay-file-2
-    part-lay-file-start-2
-    part-lay-file-end-2
-    lay-file-requires
+    sub-top-level-items
+    part-top-level-items-start
+    part-top-level-items-end
+    sub-top-level-items-2
+    part-top-level-items-start-2
+    part-top-level-items-end-2
+    top-level-items-requires
     add-size
     same-length
     returns
@@ -135,13 +135,13 @@ offer-file-spec =
     part-put-all-start
     part-put-all-end
     put-all-requires
-    sub-lay-file-3
-    part-lay-file-start-3
-    part-lay-file-end-3
-    sub-lay-file-4
-    part-lay-file-start-4
-    part-lay-file-end-4
-    lay-file-requires-2
+    sub-top-level-items-3
+    part-top-level-items-start-3
+    part-top-level-items-end-3
+    sub-top-level-items-4
+    part-top-level-items-start-4
+    part-top-level-items-end-4
+    top-level-items-requires-2
     add-result
     same-length-2
     returns-2)

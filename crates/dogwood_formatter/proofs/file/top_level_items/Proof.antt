@@ -9,8 +9,8 @@ use Rattle.dogwood_formatter.proofs.Tables.{ready-rest}
 use Rattle.dogwood_formatter.proofs.Statements.{cut-here, rest-whole}
 use Rattle.dogwood_formatter.proofs.Outlines.{statement-at, FileAt, file-start, next-parts, next-paired, next-before, next-own, next-bounded, file-turn, file-last}
 use Rattle.dogwood_formatter.proofs.Totals.{file-laid}
-use Rattle.dogwood_formatter.proofs.file.lay_file.Statement.{statement}
-use Rattle.dogwood_formatter.proofs.file.lay_file.Tie as tie
+use Rattle.dogwood_formatter.proofs.file.top_level_items.Statement.{statement}
+use Rattle.dogwood_formatter.proofs.file.top_level_items.Tie as tie
 
 abbrev Inv-loop : tie.InvT-loop
 Inv-loop out₀ text outline table page n₀ feeds₀ i₀ o₀ out n feeds i o = (length out ≡ length out₀) × FileAt (settings page) text table outline out₀ out n feeds i o
@@ -372,8 +372,8 @@ returns c =
     file-laid (start .args .page) (start .args .text .now) (start .args .table .now) (start .args .outline .now) (start .pre .0) (start .pre .3) (start .pre .2)
     (file-last (settings (start .args .page)) (start .args .text .now) (start .args .table .now) (start .args .outline .now) (c .before .before .before .before .before .before .before .before .loop .inv .1) (omega (arith, c .before .before .before .before .before .before .before .loop-test .left)) (c .before .before .before .before .before .before .clip2 .ensures .place) (omega (arith, c .before .before .before .before .before .before .before .before .loop .inv .0, start .good)) (c .before .before .before .put-remarks .ensures) (c .add2 .ensures .sum))
 
-pub lay-file-spec : {M : Type 1} → statement M
-lay-file-spec =
+pub top-level-items-spec : {M : Type 1} → statement M
+top-level-items-spec =
     tie.close
     (tie.spec
     Inv-loop
