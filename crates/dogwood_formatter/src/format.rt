@@ -47,10 +47,10 @@ fn hand_back(output: &mut [u8], source: &[u8], given: Formatted) -> Formatted
     ensures { λ r. ⌜ Given (number given) (place given) (now (source .entry)) (now (output .entry)) r (now (output .exit)) ⌝ }
 {
     let len = offer(output, source);
-    if output.len() < len {
-        return Formatted::NoRoom(len);
+    if len <= output.len() {
+        return given;
     }
-    given
+    Formatted::NoRoom(len)
 }
 
 // Formats a source whose tokens stand in a table.
@@ -94,10 +94,10 @@ fn format_tokens(output: &mut [u8], source: &[u8], outline: &[u32], table: &[u32
                     indent: 2,
                 },
             );
-            if output.len() < size {
-                return Formatted::NoRoom(size);
+            if size <= output.len() {
+                return Formatted::Done { len: size };
             }
-            Formatted::Done { len: size }
+            Formatted::NoRoom(size)
         }
     }
 }

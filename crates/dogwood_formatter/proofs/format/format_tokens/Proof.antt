@@ -65,11 +65,12 @@ same-length c = search needs
 returns : tie.Need-returns
 returns c =
     let start = c .before .before .before .before .before .before .before .before .before .before .before .before .before .before in
+    let o = fine-offered (start .args .source .now) (start .args .outline .now) (start .args .table .now) (start .pre) (c .before .before .before .offer-file .ensures) in
     record {
       verdict = 0;
       location = 0;
       judged = judged-as (start .args .source .now) (start .args .outline .now) _ (c .before .before .before .before .before .before .before .before .before .split-bom .ensures) (c .before .before .before .before .before .enum-told3 .given .1) (c .before .before .before .before .before .before .before .judge .ensures);
-      given = given-none (fine-offered (start .args .source .now) (start .args .outline .now) (start .args .table .now) (start .pre) (c .before .before .before .offer-file .ensures)) 0 0 (omega (arith, c .if1 .taken));
+      given = given-room o 0 0 (omega (arith, c .if1 .taken)) refl refl (o .count);
     }
 
 same-length-2 : tie.Need-same-length-2
@@ -126,12 +127,11 @@ same-length-6 c = search needs
 returns-6 : tie.Need-returns-6
 returns-6 c =
     let start = c .before .before .before .before .before .before .before .before .before .before .before .before .before .before in
-    let o = fine-offered (start .args .source .now) (start .args .outline .now) (start .args .table .now) (start .pre) (c .before .before .before .offer-file .ensures) in
     record {
       verdict = 0;
       location = 0;
       judged = judged-as (start .args .source .now) (start .args .outline .now) _ (c .before .before .before .before .before .before .before .before .before .split-bom .ensures) (c .before .before .before .before .before .enum-told3 .given .1) (c .before .before .before .before .before .before .before .judge .ensures);
-      given = given-room o 0 0 (omega (arith, c .if1 .left)) refl refl (o .count);
+      given = given-none (fine-offered (start .args .source .now) (start .args .outline .now) (start .args .table .now) (start .pre) (c .before .before .before .offer-file .ensures)) 0 0 (omega (arith, c .if1 .left));
     }
 
 pub format-tokens-spec : {M : Type 1} → statement M
