@@ -1,18 +1,16 @@
 -- A table that tokenising filled holds the tokens of its text, and so does each part of it.
 use mathlib.Core.Path.{_≡_, refl, sym, _∙_, ap, subst}
-use mathlib.Core.Bool.{Bool, true, false}
 use mathlib.Core.List.{List, [], _∷_, _++_, append-nil, append-assoc}
-use Prim.Native.Nat.{_≤_, ℕ, _+_, _-_, _*_, _/_}
+use Prim.Native.Nat.{_≤_, ℕ, _+_, _-_, _*_}
 use native.Mathlib.Omega.{arith}
-use lib.Dec.{ltb}
 use lib.ListN.{length, take, drop, length-append, length-take, length-drop}
 use lib.Seq.{take-append-seam, drop-append-seam}
-use Rattle.dogwood_rules.specs.Basic.{if_then_else_}
-use Rattle.dogwood_rules.specs.Utf8.{size, later, bytesOf, encode, byteLength, decode, AllScalar, scalars-more}
+use Rattle.dogwood_rules.specs.Utf8.{encode, byteLength, decode, AllScalar, scalars-more}
 use Rattle.dogwood_rules.specs.Token.{Token, Kind, Whitespace, Comment, String, Identifier, Number, Symbol, Other, kindNumber, tokenise, placed, wordsOf, spell}
 use Rattle.dogwood_rules.proofs.RoundTrip.{decode-encode}
 use Rattle.dogwood_rules.proofs.Scalars.{scalars-front}
 use Rattle.dogwood_rules.proofs.Decoding.{decode-sound}
+use Rattle.dogwood_rules.proofs.Wholes.{encode-length}
 use Rattle.dogwood_rules.proofs.Chains.{Chain, chain-end, chain-more, tokenise-made}
 use Rattle.dogwood_formatter.specs.declared.table.Entry.{Entry}
 use Rattle.dogwood_formatter.specs.View.{kindOf, bytesAt, tokenOf, tokens, Held, Holds, Ready}
@@ -29,22 +27,6 @@ kind-of Number = refl
 kind-of Symbol = refl
 kind-of Other = refl
 
-size-bytes : (c : ℕ) → length (bytesOf c) ≡ size c
-unfolding size bytesOf
-size-bytes c = go (ltb c 0x80) (ltb c 0x800) (ltb c 0x10000)
-  where
-    go : (x y z : Bool) → length (if x then c ∷ [] else if y then (0xc0 + c / 64) ∷ later c ∷ [] else if z then (0xe0 + c / 4096) ∷ later (c / 64) ∷ later c ∷ [] else (0xf0 + c / 262144) ∷ later (c / 4096) ∷ later (c / 64) ∷ later c ∷ [])
-        ≡ (if x then 1 else if y then 2 else if z then 3 else 4)
-    go true y z = refl
-    go false true z = refl
-    go false false true = refl
-    go false false false = refl
-
-length-encode : (cs : List ℕ) → length (encode cs) ≡ byteLength cs
-unfolding encode byteLength
-length-encode [] = refl
-length-encode (c ∷ cs) = length-append (bytesOf c) (encode cs) ∙ (λ j. size-bytes c j + length-encode cs j)
-
 scalars-back : (cs ds : List ℕ) → AllScalar (cs ++ ds) → AllScalar ds
 scalars-back [] ds h = h
 scalars-back (c ∷ cs) ds (scalars-more s h) = scalars-back cs ds h
@@ -59,7 +41,7 @@ module _ (before behind : List ℕ) (t : Token) (scalar : AllScalar (t .text)) w
 
   entry-bytes : bytesAt written entry ≡ encode (t .text)
   entry-bytes =
-      let l = length-encode (t .text) in
+      let l = encode-length (t .text) in
       let q : length before + byteLength (t .text) - length before ≡ length (encode (t .text)) = omega arith in
       (λ j. take (q j) (drop-append-seam before (encode (t .text) ++ behind) j)) ∙ take-append-seam (encode (t .text)) behind
 
@@ -71,7 +53,7 @@ module _ (before behind : List ℕ) (t : Token) (scalar : AllScalar (t .text)) w
 
   entry-held : Held written entry
   entry-held =
-      let l = length-encode (t .text) in
+      let l = encode-length (t .text) in
       let m = length-append before (encode (t .text) ++ behind) in
       let n = length-append (encode (t .text)) behind in
       record { ordered = omega arith; inside = omega arith; spells = ap (λ (u : Token). encode (u .text)) entry-token ∙ sym entry-bytes }
@@ -103,7 +85,7 @@ filled-from before (t ∷ ts) h =
     let one = encode (t .text) in
     let rest = encode (spell ts) in
     let e : before ++ encode (t .text ++ spell ts) ≡ (before ++ one) ++ rest = ap (λ (l : List ℕ). before ++ l) (encode-append (t .text) (spell ts)) ∙ sym (append-assoc before one rest) in
-    let l : length (before ++ one) ≡ length before + byteLength (t .text) = length-append before one ∙ ap (λ (n : ℕ). length before + n) (length-encode (t .text)) in
+    let l : length (before ++ one) ≡ length before + byteLength (t .text) = length-append before one ∙ ap (λ (n : ℕ). length before + n) (encode-length (t .text)) in
     let s = scalars-front (t .text) (spell ts) h in
     let ih = filled-from (before ++ one) ts (scalars-back (t .text) (spell ts) h) in
     let more : Filled (before ++ encode (t .text ++ spell ts)) (wordsOf (placed (length before + byteLength (t .text)) ts)) ts =

@@ -1,9 +1,9 @@
 -- What `judge` promises: numbers 4, 2, 3 and 5 of document 01 in this order, else 0.
-use mathlib.Core.Path.{_≡_, refl, ap}
+use mathlib.Core.Path.{_≡_, refl, sym, _∙_}
 use mathlib.Core.List.{List, [], _∷_}
 use mathlib.Core.Option.{Option, none, some}
 use Prim.Native.Nat.{ℕ}
-use native.Mathlib.Omega.{arith}
+use lib.Dec.{eqb}
 use lib.ListN.{length}
 use Rattle.dogwood_rules.specs.Basic.{if_then_else_}
 use Rattle.dogwood_rules.specs.Token.{Placed}
@@ -57,35 +57,24 @@ pub record Judges (text outline : List ℕ) (number place : ℕ) : Type 0 where
 pub judges-only : (text outline : List ℕ) (n m p q : ℕ) → Judges text outline n p → Judges text outline m q → (n ≡ m) × (p ≡ q)
 judges-only text outline n m p q a b = (cc, cc)
 
-verdict-only : (a b : Verdict) → number a ≡ number b → place a ≡ place b → a ≡ b
-verdict-only Misfit Misfit e f = refl
-verdict-only (Remarked n) (Remarked m) e f = ap Remarked f
-verdict-only Empty Empty e f = refl
-verdict-only (Deep n) (Deep m) e f = ap Deep f
-verdict-only Fine Fine e f = refl
-verdict-only Misfit (Remarked m) e f = absurd (omega arith)
-verdict-only Misfit Empty e f = absurd (omega arith)
-verdict-only Misfit (Deep m) e f = absurd (omega arith)
-verdict-only Misfit Fine e f = absurd (omega arith)
-verdict-only (Remarked n) Misfit e f = absurd (omega arith)
-verdict-only (Remarked n) Empty e f = absurd (omega arith)
-verdict-only (Remarked n) (Deep m) e f = absurd (omega arith)
-verdict-only (Remarked n) Fine e f = absurd (omega arith)
-verdict-only Empty Misfit e f = absurd (omega arith)
-verdict-only Empty (Remarked m) e f = absurd (omega arith)
-verdict-only Empty (Deep m) e f = absurd (omega arith)
-verdict-only Empty Fine e f = absurd (omega arith)
-verdict-only (Deep n) Misfit e f = absurd (omega arith)
-verdict-only (Deep n) (Remarked m) e f = absurd (omega arith)
-verdict-only (Deep n) Empty e f = absurd (omega arith)
-verdict-only (Deep n) Fine e f = absurd (omega arith)
-verdict-only Fine Misfit e f = absurd (omega arith)
-verdict-only Fine (Remarked m) e f = absurd (omega arith)
-verdict-only Fine Empty e f = absurd (omega arith)
-verdict-only Fine (Deep m) e f = absurd (omega arith)
+-- the verdict again
+abbrev verdictOf : ℕ → ℕ → Verdict
+verdictOf n p =
+    if eqb n 0 then Fine
+    else if eqb n 2 then Remarked p
+    else if eqb n 3 then Empty
+    else if eqb n 4 then Misfit
+    else Deep p
+
+again : (a : Verdict) → verdictOf (number a) (place a) ≡ a
+again Misfit = refl
+again (Remarked n) = refl
+again Empty = refl
+again (Deep n) = refl
+again Fine = refl
 
 -- no second verdict keeps the promise of `judge`
 pub judge-only : (text outline : List ℕ) (a b : Verdict) → Judges text outline (number a) (place a) → Judges text outline (number b) (place b) → a ≡ b
 judge-only text outline a b p q =
     let h = judges-only text outline (number a) (number b) (place a) (place b) p q in
-    verdict-only a b (h .0) (h .1)
+    sym (again a) ∙ (λ i. verdictOf (h .0 i) (h .1 i)) ∙ again b

@@ -1,8 +1,9 @@
 -- The numbers of document 01 for each answer, and that they tell the answers apart.
 use Prim.Native.Nat.{ℕ}
-use mathlib.Core.Path.{_≡_, refl, ap}
+use mathlib.Core.Path.{_≡_, refl, sym, _∙_}
 use mathlib.Core.List.{List}
-use native.Mathlib.Omega.{arith}
+use lib.Dec.{eqb}
+use Rattle.dogwood_rules.specs.Basic.{if_then_else_}
 use Rattle.dogwood_rules.specs.Contracts.{Tokenises, tokenises-only}
 use Rattle.dogwood_syntax.specs.declared.tokenizing.Tokenized.{Tokenized}
 use Rattle.dogwood_syntax.specs.declared.tokenizing.Tokenized.the-variants.{Done, Unended, TooLong, NotUtf8, Small}
@@ -22,36 +23,25 @@ value TooLong = 0
 value (NotUtf8 i) = i
 value (Small n) = n
 
-pub answer-only : (a b : Tokenized) → number a ≡ number b → value a ≡ value b → a ≡ b
-answer-only (Done n) (Done m) e f = ap Done f
-answer-only (Unended n) (Unended m) e f = ap Unended f
-answer-only TooLong TooLong e f = refl
-answer-only (NotUtf8 n) (NotUtf8 m) e f = ap NotUtf8 f
-answer-only (Small n) (Small m) e f = ap Small f
-answer-only (Done n) (Unended m) e f = absurd (omega arith)
-answer-only (Done n) TooLong e f = absurd (omega arith)
-answer-only (Done n) (NotUtf8 m) e f = absurd (omega arith)
-answer-only (Done n) (Small m) e f = absurd (omega arith)
-answer-only (Unended n) (Done m) e f = absurd (omega arith)
-answer-only (Unended n) TooLong e f = absurd (omega arith)
-answer-only (Unended n) (NotUtf8 m) e f = absurd (omega arith)
-answer-only (Unended n) (Small m) e f = absurd (omega arith)
-answer-only TooLong (Done m) e f = absurd (omega arith)
-answer-only TooLong (Unended m) e f = absurd (omega arith)
-answer-only TooLong (NotUtf8 m) e f = absurd (omega arith)
-answer-only TooLong (Small m) e f = absurd (omega arith)
-answer-only (NotUtf8 n) (Done m) e f = absurd (omega arith)
-answer-only (NotUtf8 n) (Unended m) e f = absurd (omega arith)
-answer-only (NotUtf8 n) TooLong e f = absurd (omega arith)
-answer-only (NotUtf8 n) (Small m) e f = absurd (omega arith)
-answer-only (Small n) (Done m) e f = absurd (omega arith)
-answer-only (Small n) (Unended m) e f = absurd (omega arith)
-answer-only (Small n) TooLong e f = absurd (omega arith)
-answer-only (Small n) (NotUtf8 m) e f = absurd (omega arith)
+-- the answer again
+abbrev answerOf : ℕ → ℕ → Tokenized
+answerOf n v =
+    if eqb n 0 then Done v
+    else if eqb n 1 then Unended v
+    else if eqb n 11 then TooLong
+    else if eqb n 12 then NotUtf8 v
+    else Small v
+
+again : (a : Tokenized) → answerOf (number a) (value a) ≡ a
+again (Done n) = refl
+again (Unended n) = refl
+again TooLong = refl
+again (NotUtf8 n) = refl
+again (Small n) = refl
 
 -- no second answer, and no second table, keeps the promise of `tokenize`
 pub tokenize-only : (source table : List ℕ) (a b : Tokenized) (T₁ T₂ : List ℕ)
     → Tokenises source table (number a) (value a) T₁ → Tokenises source table (number b) (value b) T₂ → (a ≡ b) × (T₁ ≡ T₂)
 tokenize-only source table a b T₁ T₂ p q =
     let h = tokenises-only source table (number a) (number b) (value a) (value b) T₁ T₂ p q in
-    (answer-only a b (h .0) (h .1), h .2)
+    (sym (again a) ∙ (λ i. answerOf (h .0 i) (h .1 i)) ∙ again b, h .2)
