@@ -2,21 +2,12 @@
 // no token, and that one twice, to see it repeat. A record: the source's bytes and the words of a table, which is not used, as two words low byte
 // first; then the source.
 use dogwood_reader::Reading;
-use libc::STDOUT_FILENO;
-
-fn put_text(s: &[u8]) {
-    io::write_all(STDOUT_FILENO, s);
-}
-
-fn put_number(n: u64) {
-    io::print_decimal(STDOUT_FILENO, n);
-}
-
-fn put_pair(n: u32, place: usize) {
-    put_number(n as u64);
-    put_text(b" ");
-    put_number(place as u64);
-}
+use files::open_arg;
+use files::put_number;
+use files::put_pair;
+use files::put_text;
+use files::read_part;
+use files::word;
 
 // Writes a reading, and answers whether it is a token.
 fn put_reading(r: Reading) -> bool {
@@ -52,12 +43,12 @@ fn run(source: &[u8]) {
 // Reads one record and runs it; answers false where there is none.
 fn one(fd: i32) -> bool {
     let mut head = [0u8; 8];
-    if files::read_part(fd, &mut head, 8) != 8 {
+    if read_part(fd, &mut head, 8) != 8 {
         return false;
     }
-    let size = files::word(&head, 0) as usize;
+    let size = word(&head, 0) as usize;
     let mut source = io::buffer();
-    let n = files::read_part(fd, &mut source, size);
+    let n = read_part(fd, &mut source, size);
     run(&source[..n]);
     true
 }
@@ -70,9 +61,7 @@ fn all(fd: i32) {
 }
 
 fn main() {
-    let mut path = io::buffer();
-    let n = os::arg(1, &mut path);
-    let fd = os::open_read(&path[..n]);
+    let fd = open_arg(1);
     if fd < 0 {
         put_text(b"no records\n");
         return;

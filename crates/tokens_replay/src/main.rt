@@ -2,10 +2,17 @@
 // A record: the source's bytes and the table's words, as two words low byte first; then the source. A source of more than 4,096 bytes is all `a`
 // and not written out: the longest that there may be, or one byte more.
 use dogwood_syntax::Tokenized;
-use libc::STDOUT_FILENO;
+use files::letters;
+use files::open_arg;
+use files::put_answer;
+use files::put_text;
+use files::read_part;
+use files::word;
+
+const LONGEST: usize = 1048576;
 
 struct Answer {
-    number: u64,
+    number: u32,
     value: usize,
 }
 
@@ -34,30 +41,9 @@ fn answer_of(t: Tokenized) -> Answer {
     }
 }
 
-fn wide(x: u32) -> u64 {
-    x as u64
-}
-
-fn print_words(words: &[u32]) {
-    for i in 0..words.len() {
-        io::write_all(STDOUT_FILENO, b" ");
-        io::print_decimal(STDOUT_FILENO, wide(words[i]));
-    }
-}
-
 fn run(source: &[u8], table: &mut [u32]) {
     let a = answer_of(dogwood_syntax::tokenize(source, table));
-    io::print_decimal(STDOUT_FILENO, a.number);
-    io::write_all(STDOUT_FILENO, b" ");
-    io::print_decimal(STDOUT_FILENO, a.value as u64);
-    print_words(table);
-    io::write_all(STDOUT_FILENO, b"\n");
-}
-
-const LONGEST: usize = 1048576;
-
-fn letters() -> [u8; 1048577] {
-    [97; 1048577]
+    put_answer(a.number, a.value, table);
 }
 
 fn run_too_long(source: &[u8; 1048577], table: &mut [u32]) {
@@ -81,11 +67,11 @@ fn run_letters(size: usize, table: &mut [u32]) {
 // Reads one record and runs it; answers false where there is none.
 fn one(fd: i32) -> bool {
     let mut head = [0u8; 8];
-    if files::read_part(fd, &mut head, 8) != 8 {
+    if read_part(fd, &mut head, 8) != 8 {
         return false;
     }
-    let size = files::word(&head, 0) as usize;
-    let room = files::word(&head, 4) as usize;
+    let size = word(&head, 0) as usize;
+    let room = word(&head, 4) as usize;
     let mut table = [4294967295u32; 12291];
     if 12291 < room {
         return false;
@@ -95,7 +81,7 @@ fn one(fd: i32) -> bool {
         return true;
     }
     let mut source = io::buffer();
-    let n = files::read_part(fd, &mut source, size);
+    let n = read_part(fd, &mut source, size);
     run(&source[..n], &mut table[0..room]);
     true
 }
@@ -108,11 +94,9 @@ fn all(fd: i32) {
 }
 
 fn main() {
-    let mut path = io::buffer();
-    let n = os::arg(1, &mut path);
-    let fd = os::open_read(&path[..n]);
+    let fd = open_arg(1);
     if fd < 0 {
-        io::write_all(STDOUT_FILENO, b"no records\n");
+        put_text(b"no records\n");
         return;
     }
     all(fd);

@@ -2,8 +2,8 @@ use mathlib.Core.Path.{refl, sym}
 use native.Mathlib.Omega.{arith}
 use lib.ListN.{List·getD-eq-default}
 use borrow.Author.Needs.{needs}
-use Rattle.files.proofs.byte.Statement.{statement}
-use Rattle.files.proofs.byte.Tie as tie
+use Rattle.files.proofs.words.byte.Statement.{statement}
+use Rattle.files.proofs.words.byte.Tie as tie
 
 shared-slice-read-result : tie.Need-shared-slice-read-result
 shared-slice-read-result c = search needs

@@ -3,8 +3,8 @@ use native.Mathlib.Omega.{arith}
 use lib.ListN.{List·getD-eq-default}
 use Rattle.files.specs.Word.{wordAt}
 use borrow.Author.Needs.{needs}
-use Rattle.files.proofs.word.Statement.{statement}
-use Rattle.files.proofs.word.Tie as tie
+use Rattle.files.proofs.words.word.Statement.{statement}
+use Rattle.files.proofs.words.word.Tie as tie
 
 returns : tie.Need-returns
 unfolding wordAt
