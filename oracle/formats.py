@@ -4,7 +4,7 @@
             -> `number value`, then each word of the table, in one line
   outlines  source length, outline words, table words; source, outline
             -> as tokens
-  calls     source length, outline words, table words, output room; source, outline
+  calls     source length, outline words, table words, output room; source (as of tokens), outline
             -> `number place length`, LF, the whole output, LF, the table's words, LF
   readings  as tokens
             -> each reading and a `;`, in one line: `kind start end`, up to the first that is none of these, and that one twice: `end` or `number place`
@@ -67,7 +67,8 @@ def outlines(source, outline, room):
 
 def calls(source, outline, table_room, output_room):
     answer = reading.answer(80, 2, source, outline, table_room, output_room)
-    asked = packed(len(source), len(outline), table_room, output_room) + source + packed(*outline)
+    written = source if len(source) < reading.LIMIT else b""
+    asked = packed(len(source), len(outline), table_room, output_room) + written + packed(*outline)
     due = line([answer.number, answer.place, len(answer.output)])
     due += answer.output + EMPTY_BYTE * (output_room - len(answer.output)) + b"\n"
     due += line(words_after(answer.table, table_room))

@@ -1,6 +1,6 @@
-"""The recorded lists that the gate replays: every rule met by short sources, each single damage, every number but 11, rooms around what is needed.
+"""The recorded lists that the gate replays: every rule met by short sources, each single damage, every number, rooms around what is needed.
 
-11 needs a source of more than 1,048,576 bytes and is in no list.
+11 needs a source of more than 1,048,576 bytes: one of letters alone, which no list writes out.
 """
 import itertools
 import os
@@ -259,6 +259,16 @@ def around_rooms(rng, index, answer):
     return (exact, more, exact, rng.choice(short))[index % 4]
 
 
+def longest_calls(host):
+    """The longest source and one byte more, each as one policy statement. Rooms too small for it: its output would be a list of its own."""
+    whole, over = b"a" * reading.LIMIT, b"a" * (reading.LIMIT + 1)
+    misfit = [1, 0, reading.LIMIT - 1, 1, 0, reading.LIMIT - 1]
+    programs.agreed(host, [generate.Case(whole, one(whole, kind=1), 80, 2), generate.Case(over, one(over, kind=1), 80, 2)])
+    for outline in (one(whole, kind=1), misfit):
+        yield from (formats.calls(whole, outline, *rooms) for rooms in ((3, 0), (3, 7), (5, 60_000), (2, 7), (0, 0)))
+    yield from (formats.calls(over, outline, *rooms) for outline in (one(over, kind=1), []) for rooms in ((3, 7), (0, 0)))
+
+
 def calls_list(host):
     rng = random.Random(SEED)
     pairs = list(call_pairs())
@@ -274,7 +284,7 @@ def calls_list(host):
         found.append(formats.calls(source, outline, words, size))
         if len(source) < 20_000:
             found += [formats.calls(source, outline, words, max(0, size - 1)), formats.calls(source, outline, max(0, words - 1), size)]
-    return found
+    return found + list(longest_calls(host))
 
 
 LISTS = {"tokens": tokens_list, "readings": readings_list, "outlines": outlines_list, "calls": calls_list}
