@@ -1,4 +1,5 @@
 // The small program of document 01: a source and its outline, each from a file that an argument names; number, place and the output bytes.
+// Whatever is wrong with a file is said by one line, and before any number: nothing is laid out that was not read whole.
 use dogwood_formatter::format_policies;
 use dogwood_told::Told;
 use dogwood_told::tell;
@@ -19,6 +20,8 @@ fn put_told(told: Told, written: &[u8]) {
     put_text(written);
 }
 
+// The source has at most 4,096 bytes, so its tokens always fit, and 13 is never answered here. That the length answered is within the output is
+// promised too; `within` says it in the words that lending a part asks for.
 fn run(source: &[u8], bytes: &[u8], outline: &mut [u32]) {
     take_words(bytes, outline);
     let mut table = [0u32; 12288];
