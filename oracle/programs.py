@@ -14,7 +14,7 @@ import rust
 
 NAMES = {"tokens": "tokens_replay", "outlines": "outline_replay", "calls": "calls_replay"}
 MOST = 4096
-MOST_OUTPUT = 65_536
+MOST_TABLE, MOST_OUTPUT, MOST_OUTLINE = 24_576, 65_536, 4096
 
 
 def room_for(rng, need):
@@ -57,11 +57,38 @@ def outlines_records(host, count, seed):
     return [formats.outlines(case.source, case.outline, room_for(rng, len(answer.table))) for case, answer in zip(cases, answers)]
 
 
+def joined(cases):
+    """The texts of some cases, each in lines of its own, and the outline of them all."""
+    source, outline = b"", []
+    for case in cases:
+        places = expected.place_words(case.outline)
+        outline += [(word + len(source)) % 2**32 if index in places else word for index, word in enumerate(case.outline)]
+        source += reading.split_mark(case.source)[1] + b"\n"
+    return generate.Case(source, outline, 80, 2)
+
+
+def long_cases(rng, cases, answers, count):
+    """Long sources: many that are laid out, one behind the other, and in every fourth one that is not."""
+    fine = [case for case, answer in zip(cases, answers) if answer.number == 0]
+    other = [case for case, answer in zip(cases, answers) if answer.number != 0]
+    found = []
+    while fine and len(found) < count:
+        some = rng.choices(fine, k=rng.randint(10, 120))
+        if other and len(found) % 4 == 3:
+            some.insert(rng.randrange(len(some)), rng.choice(other))
+        case = joined(some)
+        if len(case.source) <= MOST_OUTPUT and len(case.outline) <= MOST_OUTLINE:
+            found.append(case)
+    return found
+
+
 def calls_records(host, count, seed):
     rng, cases = random.Random(f"calls {seed}"), drawn(count, seed)
+    answers = agreed(host, cases)
+    longer = long_cases(rng, cases, answers, count // 400)
     found = []
-    for case, answer in zip(cases, agreed(host, cases)):
-        rooms = room_for(rng, len(answer.table)), min(MOST_OUTPUT, room_for(rng, len(answer.output)))
+    for case, answer in zip(cases + longer, answers + agreed(host, longer)):
+        rooms = min(MOST_TABLE, room_for(rng, len(answer.table))), min(MOST_OUTPUT, room_for(rng, len(answer.output)))
         found.append(formats.calls(case.source, case.outline, *rooms))
     return found
 
