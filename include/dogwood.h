@@ -1,8 +1,12 @@
 /* Loamribbon for C and for what can call C. Link the archive that `rt staticlib dogwood_c` writes to
- * target/staticlib/libdogwood_c.a; it needs memcpy, memmove and memset, and no other library.
+ * target/staticlib/libdogwood_c.a; it needs memcpy, memmove and memset, and no other library. examples/c/ has a program.
  *
  * A slice is a pointer and how many elements it has; with no elements the pointer may be any that is not null and is aligned.
- * Nothing is kept between calls, and buffers must not overlap. The result is the number answered (README.md has the table). */
+ * A place, a total or a length is always written. Nothing is kept between calls, and buffers must not overlap. The result is the number
+ * answered (README.md has the table).
+ *
+ * Room in a token table: three words a token (kind, start, end). A text has at most as many tokens as bytes, 1,048,576, so a table of
+ * 3,145,728 words is never too small. */
 #ifndef DOGWOOD_H
 #define DOGWOOD_H
 
@@ -21,6 +25,32 @@ uint32_t dogwood_tokenize(const uint8_t *source, size_t source_len, uint32_t *ta
  * it is as with tokenising alone. */
 uint32_t dogwood_test_outline(
     const uint8_t *source, size_t source_len, const uint32_t *outline, size_t outline_words, uint32_t *table, size_t table_words, uint64_t *place);
+
+/* Formatting: 11, 12, 1, 13, 4, 2, 3, 5, else 0; and 15 in place of any of 0 to 5 whose bytes are more than output_len.
+ *
+ *    0  laid out: the output begins with the source's mark, if it has one, and the layout
+ *    1  a string without end                  *place is its opening quote           the output begins with the source, unchanged
+ *    2  a comment inside a statement          *place is the start of the first      the same
+ *    3  no statement and no comment           *place is 0                           the same
+ *    4  the outline does not fit              *place is 0                           the same
+ *    5  nesting above 64                      *place is the first opener too deep   the same
+ *   11  a source above 1,048,576 bytes        *place is 0                           the output is as it was
+ *   12  not UTF-8                             *place is where the first bad character begins    the same
+ *   13  the table is too small                *place is how many tokens it must hold            the same
+ *   15  the output is too small               *place is how many bytes it must hold             the same
+ *
+ * 0's *place is 0. 12's counts in the source; those of 1, 2 and 5 in the text, which is the source without its mark, as do the outline's offsets and
+ * the tokens'. After 0 to 5 *length is how many bytes were written at the start of the output; after the others it is 0. Bytes behind them
+ * stay as they were.
+ *
+ * After 0, 2, 3, 4 and 5, and after a 15 in place of one of them, the table begins with the text's tokens and the rest is as it was. After 1, 11, 12
+ * and 13, and after a 15 in place of 1, it is as it was.
+ *
+ * To learn the rooms, call again: after 13 with three words for each of *place tokens, after 15 with *place bytes of output. Asked with no
+ * table and no output, a source gets its number or both rooms within three calls. */
+uint32_t dogwood_format(
+    const uint8_t *source, size_t source_len, const uint32_t *outline, size_t outline_words, uint32_t *table, size_t table_words,
+    uint8_t *output, size_t output_len, uint64_t *place, uint64_t *length);
 
 #ifdef __cplusplus
 }
