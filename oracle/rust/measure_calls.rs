@@ -12,88 +12,113 @@ extern "C" {
     ) -> u32;
 }
 
-// A statement as its author left it, cut into parts.
+// A statement as its author left it: the parts that the Rust's parser cuts it into.
 struct Statement {
     kind: ItemKind,
-    parts: Vec<String>,
+    annotations: Vec<String>,
+    // what follows them: of a policy its head and its conditions
+    clauses: Vec<String>,
+}
+
+fn definition(text: String) -> Statement {
+    Statement { kind: ItemKind::Definition, annotations: vec![], clauses: vec![text] }
+}
+
+fn policy(annotations: Vec<String>, clauses: Vec<String>) -> Statement {
+    Statement { kind: ItemKind::Policy, annotations, clauses }
 }
 
 // What stands in a vault's policy file: rules of one line, of clauses that fit on theirs and of clauses that do not, and definitions.
 fn statement(index: usize) -> Statement {
     let level = index % 7;
-    let (kind, parts) = match index % 6 {
-        0 => (
-            ItemKind::Policy,
+    match index % 6 {
+        0 => policy(
+            vec![format!("@id(\"open-{index}\")")],
             vec![
-                format!("@id(\"open-{index}\")"),
                 format!("\npermit(principal in Team::\"surface-{index}\", action == Action::\"open\", resource)\n  "),
                 format!("when {{ resource.released == true && principal.level >= {level} }}\n  "),
                 "unless { resource.owner != principal || context.hour < 7 };".to_string(),
             ],
         ),
-        1 => (
-            ItemKind::Policy,
+        1 => policy(
+            vec![],
             vec![
-                format!("permit (principal in Team::\"release\",action in [Action::\"release\", Action::\"supersede\", Action::\"withdraw\"],\n    resource in Vault::\"{index}\")\n"),
                 format!(
-                    "when {{ principal.level>={level} && resource.checks.containsAll([\"curvature\", \"gaps\", \"normals\"])\n   && (resource.owner == principal || resource.stewards.contains(principal)) && context.site in [\"A\", \"B\"] }};"
+                    "permit (principal in Team::\"release\",action in [Action::\"release\", Action::\"supersede\", Action::\"withdraw\"],\n    \
+                     resource in Vault::\"{index}\")\n"
+                ),
+                format!(
+                    "when {{ principal.level>={level} && resource.checks.containsAll([\"curvature\", \"gaps\", \"normals\"])\n   && (resource.owner \
+                     == principal || resource.stewards.contains(principal)) && context.site in [\"A\", \"B\"] }};"
                 ),
             ],
         ),
-        2 => (ItemKind::Policy, vec![format!("forbid(principal, action == Action::\"export\", resource in Folder::\"draft-{index}\");")]),
-        3 => (
-            ItemKind::Definition,
-            vec![format!(
-                "def may_sign_{index}(user, model) {{ user.active && user.level >= {level} && model.state == \"checked\"\n  && !model.holds.containsAny([\"legal\", \"export\"]) }};"
-            )],
-        ),
-        4 => (
-            ItemKind::Policy,
+        2 => policy(vec![], vec![format!("forbid(principal, action == Action::\"export\", resource in Folder::\"draft-{index}\");")]),
+        3 => definition(format!(
+            "def may_sign_{index}(user, model) {{ user.active && user.level >= {level} && model.state == \"checked\"\n  \
+             && !model.holds.containsAny([\"legal\", \"export\"]) }};"
+        )),
+        4 => policy(
+            vec![format!("@id(\"night-{index}\")"), "@advice(\"zurück an die Werkstatt\")".to_string()],
             vec![
-                format!("@id(\"night-{index}\")"),
-                " ".to_string() + "@advice(\"zurück an die Werkstatt\")",
                 "\nforbid(principal, action, resource)\n".to_string(),
                 "when { context.hour < 6 || context.hour > 22 }\n".to_string(),
                 format!(
-                    "unless {{ principal in Role::\"night-shift\" && resource.tags.containsAny([\"urgent\", \"line-{index}\"]) && context.approvals.size() >= {level} }};"
+                    "unless {{ principal in Role::\"night-shift\" && resource.tags.containsAny([\"urgent\", \"line-{index}\"]) \
+                     && context.approvals.size() >= {level} }};"
                 ),
             ],
         ),
-        _ => (
-            ItemKind::Policy,
+        _ => policy(
+            vec![],
             vec![
                 format!("permit(principal == User::\"librarian-{index}\", action, resource)\n"),
                 "when { like(resource.name, \"wing-*\") };".to_string(),
             ],
         ),
+    }
+}
+
+// A statement's text, with one blank between two annotations, and its parts within it.
+fn spelt(statement: &Statement) -> (String, Vec<Span>) {
+    let (mut text, mut parts) = (String::new(), Vec::new());
+    let mut push = |text: &mut String, part: &str| {
+        let start = text.len();
+        text.push_str(part);
+        parts.push(Span::new(start, text.len()));
     };
-    Statement { kind, parts }
+    for annotation in &statement.annotations {
+        if !text.is_empty() {
+            text.push(' ');
+        }
+        push(&mut text, annotation);
+    }
+    for clause in &statement.clauses {
+        push(&mut text, clause);
+    }
+    (text, parts)
 }
 
 // Statements with comments before, behind and between them, as long as the next one fits, and their outline.
 fn policies(bytes: usize) -> (String, Document) {
     let (mut text, mut items) = (String::from("// who may do what in the vault\n\n"), Vec::new());
     for index in 0.. {
-        let Statement { kind, parts } = statement(index);
+        let statement = statement(index);
+        let (body, parts) = spelt(&statement);
         let before = match index % 4 {
             0 => format!("// handle {index}: agreed with the design office  \n// see the vault's handbook, §{}\n", index % 40),
             2 => format!("// {index}\n"),
             _ => String::new(),
         };
         let behind = if index % 5 == 1 { " // until the audit\n\n" } else { "\n\n\n" };
-        if text.len() + before.len() + parts.concat().len() + behind.len() > bytes {
+        if text.len() + before.len() + body.len() + behind.len() > bytes {
             break;
         }
         text.push_str(&before);
         let start = text.len();
-        let mut line_parts = Vec::new();
-        for part in parts {
-            // an annotation's part is the annotation alone, as the Rust's parser cuts it
-            let from = text.len() + if part.starts_with(" @") { 1 } else { 0 };
-            text.push_str(&part);
-            line_parts.push(Span::new(from, text.len()));
-        }
-        items.push(Item { kind, span: Span::new(start, text.len()), line_parts });
+        text.push_str(&body);
+        let line_parts = parts.iter().map(|part| Span::new(start + part.start, start + part.end)).collect();
+        items.push(Item { kind: statement.kind, span: Span::new(start, text.len()), line_parts });
         text.push_str(behind);
     }
     (text, Document { items })
@@ -108,7 +133,7 @@ fn words(document: &Document) -> Vec<u32> {
     document.items.iter().flat_map(record).collect()
 }
 
-// The best times of ours and of the Rust's, in nanoseconds, and how many words the outline had.
+// The best times of ours and of the Rust's, in nanoseconds.
 struct Row {
     bytes: usize,
     ours: f64,
@@ -147,10 +172,12 @@ fn told(what: &str, found: f64, kept: bool) -> bool {
     kept
 }
 
+// Bytes, turns, and the runs of ours and of the Rust's in a turn.
+const SIZES: [(usize, usize, usize, usize); 4] = [(1_000, 200, 20, 20), (10_000, 100, 10, 5), (100_000, 25, 4, 1), (1_000_000, 3, 8, 1)];
+
 fn main() {
     println!("bytes statements outline_words ours_ms ours_ns_a_byte rust_ms rust_ns_a_byte ratio");
-    let rows: Vec<Row> =
-        [(1_000, 200, 20, 20), (10_000, 100, 10, 5), (100_000, 25, 4, 1), (1_000_000, 6, 4, 1)].map(|(bytes, turns, runs, rust_runs)| measured(bytes, turns, runs, rust_runs)).into();
+    let rows = SIZES.map(|(bytes, turns, runs, rust_runs)| measured(bytes, turns, runs, rust_runs));
     let ratio = |row: &Row| row.theirs / row.ours;
     let grown = rows[3].ours / rows[2].ours;
     let kept = [
