@@ -28,26 +28,26 @@ uint32_t dogwood_test_outline(
 
 /* Formatting: 11, 12, 1, 13, 4, 2, 3, 5, else 0; and 15 in place of any of 0 to 5 whose bytes are more than output_len.
  *
- *    0  laid out: the output begins with the source's mark, if it has one, and the layout
- *    1  a string without end                  *place is its opening quote           the output begins with the source, unchanged
- *    2  a comment inside a statement          *place is the start of the first      the same
- *    3  no statement and no comment           *place is 0                           the same
- *    4  the outline does not fit              *place is 0                           the same
- *    5  nesting above 64                      *place is the first opener too deep   the same
- *   11  a source above 1,048,576 bytes        *place is 0                           the output is as it was
- *   12  not UTF-8                             *place is where the first bad character begins    the same
- *   13  the table is too small                *place is how many tokens it must hold            the same
- *   15  the output is too small               *place is how many bytes it must hold             the same
+ *     number                               *place                                    the output
+ *      0  laid out                         0                                         begins with the source's mark, if any, and the layout
+ *      1  a string without end             its opening quote                         begins with the source, unchanged
+ *      2  a comment inside a statement     the start of the first one                the same
+ *      3  no statement and no comment      0                                         the same
+ *      4  the outline does not fit         0                                         the same
+ *      5  nesting above 64                 the first opener that reaches depth 65    the same
+ *     11  a source above 1,048,576 bytes   0                                         as it was
+ *     12  not UTF-8                        where the first bad character begins      as it was
+ *     13  the table is too small           how many tokens it must hold              as it was
+ *     15  the output is too small          how many bytes it must hold               as it was
  *
- * 0's *place is 0. 12's counts in the source; those of 1, 2 and 5 in the text, which is the source without its mark, as do the outline's offsets and
- * the tokens'. After 0 to 5 *length is how many bytes were written at the start of the output; after the others it is 0. Bytes behind them
- * stay as they were.
+ * 12's place counts in the source; those of 1, 2 and 5 count in the text, which is the source without its mark, as do the outline's offsets and the
+ * tokens'. After 0 to 5 *length is how many bytes were written at the start of the output, and those behind them stay; after the others it is 0.
  *
- * After 0, 2, 3, 4 and 5, and after a 15 in place of one of them, the table begins with the text's tokens and the rest is as it was. After 1, 11, 12
+ * After 0, 2, 3, 4 and 5, and after a 15 in place of one of these, the table begins with the text's tokens and the rest is as it was. After 1, 11, 12
  * and 13, and after a 15 in place of 1, it is as it was.
  *
- * To learn the rooms, call again: after 13 with three words for each of *place tokens, after 15 with *place bytes of output. Asked with no
- * table and no output, a source gets its number or both rooms within three calls. */
+ * To learn the rooms, call again: after 13 with three words for each of *place tokens, after 15 with *place bytes of output. Then neither comes
+ * back, so three calls are always enough. */
 uint32_t dogwood_format(
     const uint8_t *source, size_t source_len, const uint32_t *outline, size_t outline_words, uint32_t *table, size_t table_words,
     uint8_t *output, size_t output_len, uint64_t *place, uint64_t *length);
