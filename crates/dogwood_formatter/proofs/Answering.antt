@@ -5,8 +5,7 @@ use mathlib.Core.List.{List, []}
 use Prim.Native.Nat.{ℕ, _-_, _*_, _<_, _≤_}
 use native.Mathlib.Omega.{arith}
 use lib.Dec.{leb, ltb, eqb}
-use lib.ListN.{length, take, drop, length-append}
-use lib.Seq.{take-append-seam}
+use lib.ListN.{length, take, drop}
 use borrow.Author.Tests.{le-leb, lt-leb}
 use Rattle.dogwood_rules.specs.Basic.{if_then_else_}
 use Rattle.dogwood_rules.specs.Utf8.{markOf, textOf}
@@ -16,15 +15,15 @@ use Rattle.dogwood_rules.specs.Source.{Source, tooLong, notUtf8, unended, cutIn
 use Rattle.dogwood_rules.specs.Alone.{Alone, stopped, told, total, tokenised}
 use Rattle.dogwood_rules.specs.Answer.{Answer, checked, refused, answered, answer}
 use Rattle.dogwood_rules.specs.Contracts.{over, Tokenises, Answered}
-use Rattle.dogwood_rules.proofs.Wholes.{source-whole}
 use Rattle.utf8.proofs.Mark.{text-of}
 use Rattle.dogwood_syntax.specs.declared.tokenizing.Tokenized.{Tokenized}
 use Rattle.dogwood_syntax.specs.Numbers.{number as numberTokens, value}
-use Rattle.dogwood_syntax.proofs.Tokens.{length-words}
 use Rattle.dogwood_outline.specs.declared.judging.Verdict.{Verdict}
 use Rattle.dogwood_outline.specs.Pass.{placedIn}
 use Rattle.dogwood_outline.specs.Verdicts.{Judges, number as numberJudged, place as placeJudged}
-use Rattle.dogwood_outline.proofs.Outcomes.{Cut, cut-of, kept-as}
+use Rattle.dogwood_outline.specs.Judges.{JudgesIn}
+use Rattle.dogwood_outline.proofs.Judgements.{judges-table}
+use Rattle.dogwood_outline.proofs.Outcomes.{kept as same-call, cut, same-places, filled, part-filled}
 use Rattle.dogwood_outline.proofs.Answers.{written as writtenUnder, answer-judged}
 use Rattle.dogwood_formatter.specs.declared.format.Formatted.{Formatted}
 use Rattle.dogwood_formatter.specs.declared.format.Formatted.the-variants.{NoRoom}
@@ -59,11 +58,11 @@ module _ {bytes old new : List ℕ} {len : ℕ} (o : Offered bytes old len new) 
 
 -- Judged behind the mark ---------------------------------------------------------------------------------------------------
 
-pub judged-as : (source outline : List ℕ) {mark : ℕ} {v : Verdict} (w : Verdict) → mark ≡ length (markOf source) → v ≡ w
-    → Judges (take (length source - mark) (drop mark source)) outline (numberJudged v) (placeJudged v) → Judges (textOf source) outline (numberJudged w) (placeJudged w)
-judged-as source outline {mark} {v} w e q j =
+pub judged-as : (source outline : List ℕ) {table : List ℕ} {mark : ℕ} {v : Verdict} (w : Verdict) → table ≡ wordsOf (placedIn (textOf source)) → mark ≡ length (markOf source) → v ≡ w
+    → JudgesIn (take (length source - mark) (drop mark source)) table outline (numberJudged v) (placeJudged v) → Judges (textOf source) outline (numberJudged w) (placeJudged w)
+judged-as source outline {table} {mark} {v} w k e q j =
     subst (λ (x : Verdict). Judges (textOf source) outline (numberJudged x) (placeJudged x)) q
-    (subst (λ (l : List ℕ). Judges l outline (numberJudged v) (placeJudged v)) (text-of source mark e) j)
+    (judges-table (textOf source) outline (subst (λ (l : List ℕ). JudgesIn (textOf source) l outline (numberJudged v) (placeJudged v)) k (subst (λ (l : List ℕ). JudgesIn l table outline (numberJudged v) (placeJudged v)) (text-of source mark e) j)))
 
 -- The whole call -----------------------------------------------------------------------------------------------------------
 
@@ -121,7 +120,7 @@ module _ (source outline table old : List ℕ) where
 
   module _ (T : List ℕ) {x : Tokenized} (y : Tokenized) (q : x ≡ y) (t : Tokenises source table (numberTokens x) (value x) T) where
     kept : Tokenises source table (numberTokens y) (value y) T
-    kept = kept-as source outline table T x y q t
+    kept = same-call source table T y q t
 
     stop : (numberTokens y ≡ 0 → ⊥) → Stopped (sourceOf source)
     unfolding tokenised
@@ -158,47 +157,18 @@ module _ (source outline table old : List ℕ) where
         g
 
     module _ (o : numberTokens y ≡ 0) where
-      cut : Cut (length table) (sourceOf source)
-      unfolding tokenised
-      cut = cut-of (length table) (sourceOf source) (sym (kept .numbered) ∙ o)
-
-      same-places : cut .ps ≡ placedIn (textOf source)
-      unfolding placedIn
-      same-places = source-whole source (cut .ps) (cut .is) .cut
-
-      filled : T ≡ over (wordsOf (placedIn (textOf source))) table
-      unfolding tokenised total
-      filled = kept .tabled ∙ ap (λ (a : Alone). over (a .table) table) (cut .tells total) ∙ ap (λ (ps : List Placed). over (wordsOf ps) table) same-places
-
-      pub counted : value y ≡ length (placedIn (textOf source))
-      unfolding tokenised total
-      counted = kept .valued ∙ ap (λ (a : Alone). a .value) (cut .tells total) ∙ ap (λ (ps : List Placed). length ps) same-places
-
-      pub roomy : 3 * value y ≤ length table
-      roomy = let a = cut .ample in let e = ap (λ (ps : List Placed). length ps) same-places in let c = counted in omega arith
-
-      pub ample : 3 * value y ≤ length T
-      ample =
-          let f = ap length filled in
-          let l = length-append (wordsOf (placedIn (textOf source))) (drop (length (wordsOf (placedIn (textOf source)))) table) in
-          let w = length-words (placedIn (textOf source)) in
-          let c = counted in
-          omega arith
+      cut-text : sourceOf source ≡ cutInto (placedIn (textOf source))
+      cut-text = cut source table T y q t o .is ∙ ap cutInto (same-places source table T y q t o)
 
       -- the part of the table that was filled
-      pub part-filled : (sourceOf source ≡ cutInto (placedIn (textOf source))) × (take (3 * value y - 0) (drop 0 T) ≡ wordsOf (placedIn (textOf source)))
-      part-filled =
-          let ps = placedIn (textOf source) in
-          let n : 3 * value y - 0 ≡ length (wordsOf ps) = let w = length-words ps in let c = counted in omega arith in (
-            cut .is ∙ ap cutInto same-places,
-            (λ i. take (n i) (filled i)) ∙ take-append-seam (wordsOf ps) (drop (length (wordsOf ps)) table),
-          )
+      pub part-ready : (sourceOf source ≡ cutInto (placedIn (textOf source))) × (take (3 * value y - 0) (drop 0 T) ≡ wordsOf (placedIn (textOf source)))
+      part-ready = (cut-text, part-filled source table T y q t o)
 
       -- 4, 2, 3, 5, else 0
       pub settled-answered : {r : Formatted} {new : List ℕ} → Settled source outline old r new → Answered house source outline table old (number r) (place r) (written r) T new
       settled-answered s =
-          let room : 3 * length (placedIn (textOf source)) ≤ length table = let a = cut .ample in let e = ap (λ (ps : List Placed). length ps) same-places in omega arith in
+          let room : 3 * length (placedIn (textOf source)) ≤ length table = let a = cut source table T y q t o .ample in let e = ap (λ (ps : List Placed). length ps) (same-places source table T y q t o) in omega arith in
           given-answered (s .verdict) (s .location) (writtenUnder house source outline (placedIn (textOf source)) (s .verdict)) (wordsOf (placedIn (textOf source)))
-          (answer-judged house source outline (length table) (length old) (placedIn (textOf source)) (part-filled .0) room (s .judged))
-          filled
+          (answer-judged house source outline (length table) (length old) (placedIn (textOf source)) cut-text room (s .judged))
+          (filled source table T y q t o)
           (s .given)

@@ -60,7 +60,7 @@ fn format_tokens(output: &mut [u8], source: &[u8], outline: &[u32], table: &[u32
 {
     let mark = split_bom(source);
     let len = source.len();
-    match judge(&source[mark..], outline) {
+    match judge(&source[mark..], table, outline) {
         Verdict::Misfit => hand_back(output, source, Formatted::Misfit { len: len }),
         Verdict::Remarked(place) => {
             hand_back(

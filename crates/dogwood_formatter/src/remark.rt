@@ -26,12 +26,20 @@ fn kept(bytes: &[u8]) -> usize
     let mut keep: usize = 0;
     let mut i: usize = 0;
     while i < bytes.len() {
-        let Decoded::Char { code, len } = decode(bytes, i) else {
-            return keep;
-        };
-        i += len;
-        if !is_space(code) {
-            keep = i;
+        let b = bytes[i];
+        if b < 0x80 {
+            i += 1;
+            if !is_space(b as u32) {
+                keep = i;
+            }
+        } else {
+            let Decoded::Char { code, len } = decode(bytes, i) else {
+                return keep;
+            };
+            i += len;
+            if !is_space(code) {
+                keep = i;
+            }
         }
     }
     keep

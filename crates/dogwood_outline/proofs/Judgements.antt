@@ -1,31 +1,47 @@
--- Each verdict, by what the searches found.
-use mathlib.Core.Path.{_≡_, refl, sym, _∙_, ap}
-use mathlib.Core.Bool.{true, false, _&&_}
+-- A table that has the words of a text's tokens: what is judged by it is what the rules answer.
+use mathlib.Core.Path.{_≡_, refl, sym, _∙_, ap, subst}
+use mathlib.Core.Bool.{Bool, true, false, _&&_}
 use mathlib.Core.List.{List, [], _∷_}
 use mathlib.Core.Option.{Option, none, some}
 use Prim.Native.Nat.{ℕ}
 use native.Mathlib.Omega.{arith}
 use lib.Dec.{eqb}
-use lib.ListN.{length}
-use Rattle.utf8.specs.declared.Found.the-variants.{At, Nothing}
-use Rattle.dogwood_rules.specs.Outline.{statements, fits}
+use lib.ListN.{length, getD}
+use Rattle.dogwood_rules.specs.Basic.{if_then_else_}
+use Rattle.dogwood_rules.specs.Token.{Placed, kindNumber, wordsOf}
+use Rattle.dogwood_rules.specs.Outline.{statements, fits, upTo}
 use Rattle.dogwood_rules.specs.File.{Piece, pieces}
-use Rattle.dogwood_rules.specs.Searches.{commentIn, tooDeep, firstComment, deepOpener}
+use Rattle.dogwood_rules.specs.Searches.{commentIn, firstComment, deepOpener, tooDeep}
 use Rattle.dogwood_syntax.specs.Cursor.{tokensAt}
-use Rattle.dogwood_outline.specs.Pass.{placedIn}
-use Rattle.dogwood_outline.specs.Search.{foundOf, absent, commentAt}
+use Rattle.dogwood_outline.specs.Brackets.{opening, closing}
+use Rattle.dogwood_outline.specs.Judges.{JudgesIn}
+use Rattle.dogwood_outline.specs.Pass.{placedIn, outlinePass, passes}
+use Rattle.dogwood_outline.specs.Search.{absent}
+use Rattle.dogwood_outline.specs.Table.{commentBefore, deepIn, statementsIn, fitsIn, firstCommentIn, judgedIn}
 use Rattle.dogwood_outline.specs.Verdicts.{nested, filled, commented, judged, Judges}
-use Rattle.dogwood_outline.proofs.Texts.{tokens-start}
-use Rattle.dogwood_outline.proofs.Comments.{first-comment-law, pieces-none, pieces-some}
 use Rattle.dogwood_outline.proofs.Deep.{deep-law}
+use Rattle.dogwood_outline.proofs.NoPiece.{pieces-none, pieces-some}
+use Rattle.dogwood_outline.proofs.Spans.{below-all}
+use Rattle.dogwood_outline.proofs.Symbols.{opens-at, closes-at}
+use Rattle.dogwood_outline.proofs.Tabled.{Bracketed, bracketed-end, bracketed-more, statements-words, comment-words, first-comment-words, deep-words}
+use Rattle.dogwood_outline.proofs.Texts.{text-below, fit-law, tokens-start}
+use Rattle.dogwood_outline.proofs.Took.{Took, Pace, pace-on, pace-off, pace}
 
-found-none : (o : Option ℕ) → foundOf o ≡ Nothing → o ≡ none
-found-none none e = refl
-found-none (some n) e = absurd (let z : _≡_ {A = ℕ} 0 1 = cc in omega arith)
-
-found-some : (o : Option ℕ) {n : ℕ} → foundOf o ≡ At n → o ≡ some n
-found-some none e = absurd (let z : _≡_ {A = ℕ} 0 1 = cc in omega arith)
-found-some (some m) e = cc
+bracketed-at : (s : List ℕ) (i : ℕ) (ps : List Placed) → tokensAt s i ≡ ps → Bracketed s ps
+bracketed-at s i [] w = bracketed-end
+bracketed-at s i (p ∷ ps) w = by (λ (i : ℕ) (w : tokensAt s i ≡ ps). bracketed-at s i ps w) (pace s i)
+  where
+    by : ((i : ℕ) → tokensAt s i ≡ ps → Bracketed s ps) → Pace s i → Bracketed s (p ∷ ps)
+    by ih (pace-off h) = let z : _≡_ {A = List Placed} [] (p ∷ ps) = sym h ∙ w in absurd (let y : _≡_ {A = ℕ} 0 1 = cc in omega arith)
+    by ih (pace-on {c} t) =
+        let z : t .first ∷ tokensAt s (c .at) ≡ p ∷ ps = sym (t .tokens) ∙ w in
+        let r : tokensAt s (c .at) ≡ ps = cc in
+        let f : t .first ≡ p = cc in
+        let m : p .start ≡ i = sym (ap (λ (v : Placed). v .start) f) ∙ t .starts in
+        bracketed-more
+        (ap (λ (n : ℕ). opening (kindNumber (p .token .kind)) (getD s n 0)) m ∙ opens-at s i p ps w)
+        (ap (λ (n : ℕ). closing (kindNumber (p .token .kind)) (getD s n 0)) m ∙ closes-at s i p ps w)
+        (ih (c .at) r)
 
 some-filled : (qs : List Piece) (o : Option ℕ) → (qs ≡ [] → ⊥) → filled qs o ≡ nested o
 unfolding filled
@@ -33,52 +49,39 @@ some-filled [] o n = absurd (n refl)
 some-filled (q ∷ qs) o n = refl
 
 module _ (s ws : List ℕ) where
-  judges : {p : ℕ × ℕ} → judged (length s) (placedIn s) ws ≡ p → Judges s ws (p .0) (p .1)
-  judges e = record { numbered = sym (ap (λ (x : ℕ × ℕ). x .0) e); located = sym (ap (λ (x : ℕ × ℕ). x .1) e) }
+  abbrev table : List ℕ
+  table = wordsOf (placedIn s)
 
-  pub judged-misfit : fits (length s) (placedIn s) ws ≡ false → Judges s ws 4 0
-  unfolding judged
-  judged-misfit e = judges (simp e)
+  bracketed : Bracketed s (placedIn s)
+  bracketed = bracketed-at s 0 (placedIn s) (tokens-start s)
 
-  module _ (fit : fits (length s) (placedIn s) ws ≡ true) where
-    abbrev found : Option ℕ
-    found = firstComment (statements ws .0) (placedIn s)
+  pub fits-table : fitsIn s table ws ≡ fits (length s) (placedIn s) ws
+  unfolding fitsIn passes
+  fits-table = ap (λ (b : Bool). eqb (length (statements ws .1)) 0 && b) (statements-words s table (statements ws .0) 0 bracketed refl) ∙ fit-law s ws
 
-    abbrev parts : List Piece
-    parts = pieces (statements ws .0) (placedIn s)
+  first-table : firstCommentIn s table (statements ws .0) 0 ≡ firstComment (statements ws .0) (placedIn s)
+  first-table = first-comment-words s table (statements ws .0) 0 (placedIn s) refl
 
-    abbrev deep : Option ℕ
-    deep = deepOpener (statements ws .0) (placedIn s)
+  any-table : commentBefore (length s) table ≡ commentIn (placedIn s)
+  any-table = comment-words (length s) (placedIn s) ∙ ap commentIn (below-all (length s) (placedIn s) (text-below s))
 
-    fitted : judged (length s) (placedIn s) ws ≡ commented found parts deep
-    unfolding judged
-    fitted = simp fit
+  abbrev judgedRow : Bool → Option ℕ → Option ℕ → Option ℕ → ℕ × ℕ
+  judgedRow b first any deep =
+      if b then elim first [ some n ↦ (2, n) | none ↦ if eqb (length ws) 0 && absent any then (3, 0) else nested deep ] else (4, 0)
 
-    pub judged-remarked : {n : ℕ} → commentAt s (statements ws .0) ≡ At n → Judges s ws 2 n
-    unfolding commented
-    judged-remarked e =
-        judges (fitted ∙ ap (λ (o : Option ℕ). commented o parts deep) (found-some found (sym (first-comment-law s ws fit) ∙ e)))
+  judged-table : judgedIn s table ws ≡ judged (length s) (placedIn s) ws
+  unfolding judgedIn judged commented filled
+  judged-table =
+      (λ i. judgedRow (fits-table i) (first-table i) (any-table i) (deep-words s 0 bracketed i))
+      ∙ by (fits (length s) (placedIn s) ws) refl (firstComment (statements ws .0) (placedIn s)) refl (eqb (length ws) 0 && absent (commentIn (placedIn s))) refl
+    where
+      by : (b : Bool) → fits (length s) (placedIn s) ws ≡ b → (o : Option ℕ) → firstComment (statements ws .0) (placedIn s) ≡ o → (n : Bool) → eqb (length ws) 0 && absent (commentIn (placedIn s)) ≡ n
+          → judgedRow (fits (length s) (placedIn s) ws) (firstComment (statements ws .0) (placedIn s)) (commentIn (placedIn s)) (tooDeep 0 (placedIn s))
+          ≡ (if fits (length s) (placedIn s) ws then commented (firstComment (statements ws .0) (placedIn s)) (pieces (statements ws .0) (placedIn s)) (deepOpener (statements ws .0) (placedIn s)) else (4, 0))
+      by false e o f n g = rw e refl
+      by true e (some p) f n g = rw e (rw f refl)
+      by true e none f true g = rw e (rw f (rw g (sym (ap (λ (qs : List Piece). filled qs (deepOpener (statements ws .0) (placedIn s))) (pieces-none s ws e g)))))
+      by true e none f false g = rw e (rw f (rw g (ap nested (deep-law s ws e) ∙ sym (some-filled (pieces (statements ws .0) (placedIn s)) (deepOpener (statements ws .0) (placedIn s)) (pieces-some s ws e g)))))
 
-    module _ (c : commentAt s (statements ws .0) ≡ Nothing) where
-      quiet : judged (length s) (placedIn s) ws ≡ filled parts deep
-      unfolding commented
-      quiet = fitted ∙ ap (λ (o : Option ℕ). commented o parts deep) (found-none found (sym (first-comment-law s ws fit) ∙ c))
-
-      pub judged-empty : eqb (length ws) 0 && absent (commentIn (placedIn s)) ≡ true → Judges s ws 3 0
-      unfolding filled
-      judged-empty e = judges (quiet ∙ ap (λ (qs : List Piece). filled qs deep) (pieces-none s ws fit e))
-
-      module _ (e : eqb (length ws) 0 && absent (commentIn (placedIn s)) ≡ false) where
-        depth : foundOf (tooDeep 0 (tokensAt s 0)) ≡ foundOf deep
-        depth = ap (λ ps. foundOf (tooDeep 0 ps)) (tokens-start s) ∙ ap foundOf (deep-law s ws fit)
-
-        nest : judged (length s) (placedIn s) ws ≡ nested deep
-        nest = quiet ∙ some-filled parts deep (pieces-some s ws fit e)
-
-        pub judged-deep : {n : ℕ} → foundOf (tooDeep 0 (tokensAt s 0)) ≡ At n → Judges s ws 5 n
-        unfolding nested
-        judged-deep d = judges (nest ∙ ap nested (found-some deep (sym depth ∙ d)))
-
-        pub judged-fine : foundOf (tooDeep 0 (tokensAt s 0)) ≡ Nothing → Judges s ws 0 0
-        unfolding nested
-        judged-fine d = judges (nest ∙ ap nested (found-none deep (sym depth ∙ d)))
+  pub judges-table : {n p : ℕ} → JudgesIn s table ws n p → Judges s ws n p
+  judges-table j = record { numbered = j .numbered ∙ ap (λ (x : ℕ × ℕ). x .0) judged-table; located = j .located ∙ ap (λ (x : ℕ × ℕ). x .1) judged-table }

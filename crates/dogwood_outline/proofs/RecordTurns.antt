@@ -1,124 +1,115 @@
 -- A turn of the loop over records: each refusal, and the way on.
 use mathlib.Core.Path.{_≡_, refl, sym, _∙_, ap}
-use mathlib.Core.Bool.{Bool, true, false, _&&_}
+use mathlib.Core.Bool.{Bool, true, false, not, _&&_}
 use mathlib.Core.List.{List, [], _∷_}
-use mathlib.Core.Option.{none, some}
-use Prim.Native.Nat.{ℕ, suc, _+_, _*_, _-_, _<_, _≤_}
+use mathlib.Core.Option.{Option, none, some}
+use Prim.Native.Nat.{ℕ, suc, _+_, _*_, _<_, _≤_}
 use native.Mathlib.Omega.{arith}
 use lib.Dec.{eqb}
 use lib.ListN.{length, getD, drop}
 use borrow.Author.Tests.{ne-eqb}
-use Rattle.dogwood_rules.specs.Outline.{Span, Statement, statement, statements, kindOk, from, fits}
-use Rattle.dogwood_syntax.specs.Cursor.{tokensAt}
-use Rattle.dogwood_outline.specs.Records.{spansAt, statementAt, recordAt}
-use Rattle.dogwood_outline.specs.Pass.{placedIn, gap, partsPass, statementPass, outlinePass, passes}
-use Rattle.dogwood_outline.proofs.Bools.{and-false}
-use Rattle.dogwood_outline.proofs.Texts.{fit-law, tokens-start}
-use Rattle.dogwood_outline.proofs.Words.{records-end, records-stop, records-more, whole, said, unsaid}
+use Rattle.dogwood_rules.specs.Outline.{Statement, statements, kindOk}
+use Rattle.utf8.specs.declared.Found.the-variants.{At, Nothing}
 use Rattle.dogwood_outline.specs.declared.records.Reading.the-variants.{Whole, Short}
 use Rattle.dogwood_outline.specs.declared.records.Record.{Record}
-use Rattle.dogwood_outline.proofs.PartTurns.{partsLeft, gap-arrives, parts-arrive}
+use Rattle.dogwood_outline.specs.Records.{statementAt, recordAt}
+use Rattle.dogwood_outline.specs.Search.{foundOf, absent}
+use Rattle.dogwood_outline.specs.Table.{skipIn, gapIn, partsIn, statementsIn, fitsIn}
+use Rattle.dogwood_outline.proofs.Bools.{and-false}
+use Rattle.dogwood_outline.proofs.Words.{records-end, records-stop, records-more, whole, said, unsaid}
+use Rattle.dogwood_outline.proofs.PartTurns.{partsLeft, found-at, found-none}
 
--- the records from word i on, from a place on
-abbrev pub recordsLeft : List ℕ → List ℕ → ℕ → ℕ → Bool
-recordsLeft s ws i at = passes (length s) (drop i ws) (tokensAt s at)
+-- One statement -------------------------------------------------------------------------------------------------------
 
-module _ (s ws : List ℕ) (i at : ℕ) where
-  pub left-end : length ws ≤ i → recordsLeft s ws i at ≡ gap (length s) (length s) (tokensAt s at)
-  unfolding passes outlinePass
-  left-end h =
-      ap (λ (r : List Statement × List ℕ). eqb (length (r .1)) 0 && outlinePass (length s) (r .0) (tokensAt s at)) (records-end ws i h)
+module _ (s t : List ℕ) (x : Statement) (xs : List Statement) (row : ℕ) where
+  one-kind : kindOk x ≡ false → statementsIn s t (x ∷ xs) row ≡ false
+  unfolding statementsIn
+  one-kind e = simp e
+
+  module _ (k : kindOk x ≡ true) where
+    one-gap : gapIn (length s) (x .span .start) row (drop row t) ≡ none → statementsIn s t (x ∷ xs) row ≡ false
+    unfolding statementsIn
+    one-gap e = simp (k, e)
+
+    module _ {j : ℕ} (g : gapIn (length s) (x .span .start) row (drop row t) ≡ some j) where
+      one-parts : partsIn s t (x .parts) (x .span .stop) false j ≡ false → statementsIn s t (x ∷ xs) row ≡ false
+      unfolding statementsIn
+      one-parts e = simp (k, g, e)
+
+      one-on : partsIn s t (x .parts) (x .span .stop) false j ≡ true → statementsIn s t (x ∷ xs) row ≡ statementsIn s t xs (skipIn (x .span .stop) j (drop j t))
+      unfolding statementsIn
+      one-on e = simp (k, g, e)
+
+-- The records from word i on, from a row on ------------------------------------------------------------------------------
+
+abbrev fitting : List ℕ → List ℕ → ℕ → List Statement × List ℕ → Bool
+fitting s t row r = eqb (length (r .1)) 0 && statementsIn s t (r .0) row
+
+abbrev pub recordsLeft : List ℕ → List ℕ → List ℕ → ℕ → ℕ → Bool
+recordsLeft s t ws i row = fitting s t row (statements (drop i ws))
+
+module _ (s t ws : List ℕ) (i row : ℕ) where
+  no-more : length ws ≤ i → recordsLeft s t ws i row ≡ not (absent (gapIn (length s) (length s) row (drop row t)))
+  unfolding statementsIn
+  no-more h = ap (fitting s t row) (records-end ws i h)
+
+  pub left-off : length ws ≤ i → foundOf (gapIn (length s) (length s) row (drop row t)) ≡ Nothing → recordsLeft s t ws i row ≡ false
+  left-off h e = no-more h ∙ ap (λ (o : Option ℕ). not (absent o)) (found-none (gapIn (length s) (length s) row (drop row t)) e)
+
+  pub left-end : {j : ℕ} → length ws ≤ i → foundOf (gapIn (length s) (length s) row (drop row t)) ≡ At j → recordsLeft s t ws i row ≡ true
+  left-end h e = no-more h ∙ ap (λ (o : Option ℕ). not (absent o)) (found-at (gapIn (length s) (length s) row (drop row t)) e)
 
   module _ (h : i < length ws) where
-    pub left-short : statement (drop i ws) ≡ none → recordsLeft s ws i at ≡ false
-    unfolding passes
-    left-short e =
-        ap (λ (r : List Statement × List ℕ). eqb (length (r .1)) 0 && outlinePass (length s) (r .0) (tokensAt s at)) (records-stop ws i h e)
-        ∙ ap (λ (b : Bool). b && outlinePass (length s) [] (tokensAt s at)) (ne-eqb (suc (length (drop (i + 1) ws))) 0 (λ (z : suc (length (drop (i + 1) ws)) ≡ 0). omega arith))
+    pub left-none : recordAt ws i ≡ Short → recordsLeft s t ws i row ≡ false
+    left-none e =
+        ap (fitting s t row) (records-stop ws i h (unsaid ws i e))
+        ∙ ap (λ (b : Bool). b && statementsIn s t [] row) (ne-eqb (suc (length (drop (i + 1) ws))) 0 (λ (z : suc (length (drop (i + 1) ws)) ≡ 0). omega arith))
 
-    module _ (e : statement (drop i ws) ≡ some (statementAt ws i, 3 + 2 * getD ws (i + 3) 0)) where
-      abbrev start : ℕ
-      start = getD ws (i + 1) 0
+    module _ {r : Record} (q : recordAt ws i ≡ Whole r) where
+      is : whole ws i ≡ r
+      is = sym (said ws i q .is)
 
-      abbrev stop : ℕ
-      stop = getD ws (i + 2) 0
+      abbrev after : List Statement × List ℕ
+      after = statements (drop (i + 4 + 2 * getD ws (i + 3) 0) ws)
 
-      abbrev ss : List Span
-      ss = spansAt ws (getD ws (i + 3) 0) (i + 4)
+      step : {b : Bool} → statementsIn s t (statementAt ws i ∷ after .0) row ≡ b → recordsLeft s t ws i row ≡ eqb (length (after .1)) 0 && b
+      step e =
+          ap (fitting s t row) (records-more ws i h (statementAt ws i) (getD ws (i + 3) 0) (said ws i q .stated))
+          ∙ ap (λ (x : Bool). eqb (length (after .1)) 0 && x) e
 
-      abbrev after : Bool
-      after = passes (length s) (drop (i + 4 + 2 * getD ws (i + 3) 0) ws) (from stop (from start (tokensAt s at)))
+      stop : statementsIn s t (statementAt ws i ∷ after .0) row ≡ false → recordsLeft s t ws i row ≡ false
+      stop e = step e ∙ and-false (eqb (length (after .1)) 0)
 
-      records-step : recordsLeft s ws i at ≡ (kindOk (statementAt ws i) && (gap (length s) start (tokensAt s at) && partsPass (length s) ss stop false (from start (tokensAt s at)))) && after
-      unfolding passes outlinePass statementPass statementAt
-      records-step =
-          let r = statements (drop (i + 4 + 2 * getD ws (i + 3) 0) ws) in
-          ap (λ (r : List Statement × List ℕ). eqb (length (r .1)) 0 && outlinePass (length s) (r .0) (tokensAt s at)) (records-more ws i h (statementAt ws i) (getD ws (i + 3) 0) e)
-          ∙ swap (eqb (length (r .1)) 0) (statementPass (length s) (statementAt ws i) (tokensAt s at)) (outlinePass (length s) (r .0) (from stop (from start (tokensAt s at))))
-        where
-          swap : (a b c : Bool) → a && (b && c) ≡ b && (a && c)
-          swap true b c = refl
-          swap false true c = refl
-          swap false false c = refl
+      pub left-kind : kindOk (statementAt ws i) ≡ false → recordsLeft s t ws i row ≡ false
+      left-kind e = stop (one-kind s t (statementAt ws i) (after .0) row e)
 
-      records-kind : kindOk (statementAt ws i) ≡ false → recordsLeft s ws i at ≡ false
-      records-kind e = records-step ∙ ap (λ (x : Bool). (x && (gap (length s) start (tokensAt s at) && partsPass (length s) ss stop false (from start (tokensAt s at)))) && after) e
+      module _ (k : kindOk (statementAt ws i) ≡ true) where
+        pub left-gap : foundOf (gapIn (length s) (r .start) row (drop row t)) ≡ Nothing → recordsLeft s t ws i row ≡ false
+        unfolding statementAt
+        left-gap e =
+            stop (one-gap s t (statementAt ws i) (after .0) row k
+            (ap (λ (x : Record). gapIn (length s) (x .start) row (drop row t)) is ∙ found-none (gapIn (length s) (r .start) row (drop row t)) e))
 
-      records-gap : gap (length s) start (tokensAt s at) ≡ false → recordsLeft s ws i at ≡ false
-      records-gap e =
-          records-step ∙ ap (λ (x : Bool). (kindOk (statementAt ws i) && (x && partsPass (length s) ss stop false (from start (tokensAt s at)))) && after) e
-          ∙ ap (λ (x : Bool). x && after) (and-false (kindOk (statementAt ws i)))
+        module _ {j : ℕ} (f : foundOf (gapIn (length s) (r .start) row (drop row t)) ≡ At j) where
+          there : gapIn (length s) (getD ws (i + 1) 0) row (drop row t) ≡ some j
+          there = ap (λ (x : Record). gapIn (length s) (x .start) row (drop row t)) is ∙ found-at (gapIn (length s) (r .start) row (drop row t)) f
 
-      module _ (g : gap (length s) start (tokensAt s at) ≡ true) where
-        there₁ : from start (tokensAt s at) ≡ tokensAt s start
-        there₁ = gap-arrives s start at g
+          parted : {b : Bool} → partsLeft s t ws (r .parts) (i + 4) (r .end) false j ≡ b → partsLeft s t ws (getD ws (i + 3) 0) (i + 4) (getD ws (i + 2) 0) false j ≡ b
+          parted e = ap (λ (x : Record). partsLeft s t ws (x .parts) (i + 4) (x .end) false j) is ∙ e
 
-        records-parts : partsLeft s ws (getD ws (i + 3) 0) (i + 4) stop false start ≡ false → recordsLeft s ws i at ≡ false
-        records-parts e =
-            let f : partsPass (length s) ss stop false (from start (tokensAt s at)) ≡ false = ap (partsPass (length s) ss stop false) there₁ ∙ e in
-            records-step ∙ ap (λ (x : Bool). (kindOk (statementAt ws i) && (gap (length s) start (tokensAt s at) && x)) && after) f
-            ∙ ap (λ (x : Bool). (kindOk (statementAt ws i) && x) && after) (and-false (gap (length s) start (tokensAt s at)))
-            ∙ ap (λ (x : Bool). x && after) (and-false (kindOk (statementAt ws i)))
+          pub left-parts : partsLeft s t ws (r .parts) (i + 4) (r .end) false j ≡ false → recordsLeft s t ws i row ≡ false
+          unfolding statementAt
+          left-parts e = stop (one-parts s t (statementAt ws i) (after .0) row k there (parted e))
 
-        records-on : kindOk (statementAt ws i) ≡ true → partsLeft s ws (getD ws (i + 3) 0) (i + 4) stop false start ≡ true
-            → recordsLeft s ws i at ≡ recordsLeft s ws (i + 4 + 2 * getD ws (i + 3) 0) stop
-        records-on k e =
-            let f : partsPass (length s) ss stop false (from start (tokensAt s at)) ≡ true = ap (partsPass (length s) ss stop false) there₁ ∙ e in
-            let f₂ : from stop (from start (tokensAt s at)) ≡ tokensAt s stop = ap (from stop) there₁ ∙ parts-arrive s ss stop false start e in
-            records-step ∙ ap (λ (x : Bool). (x && (gap (length s) start (tokensAt s at) && partsPass (length s) ss stop false (from start (tokensAt s at)))) && after) k
-            ∙ ap (λ (x : Bool). (x && partsPass (length s) ss stop false (from start (tokensAt s at))) && after) g
-            ∙ ap (λ (x : Bool). x && after) f
-            ∙ ap (passes (length s) (drop (i + 4 + 2 * getD ws (i + 3) 0) ws)) f₂
+          pub left-on : partsLeft s t ws (r .parts) (i + 4) (r .end) false j ≡ true → {m : ℕ} → m ≡ skipIn (r .end) j (drop j t)
+              → recordsLeft s t ws i row ≡ recordsLeft s t ws (r .next) m
+          unfolding statementAt
+          left-on e {m} z =
+              step (one-on s t (statementAt ws i) (after .0) row k there (parted e))
+              ∙ ap (λ (x : Record). recordsLeft s t ws (x .next) (skipIn (x .end) j (drop j t))) is
+              ∙ ap (recordsLeft s t ws (r .next)) (sym z)
 
--- .. by the record that is read
-module _ (s ws : List ℕ) (i at : ℕ) (h : i < length ws) where
-  pub left-none : recordAt ws i ≡ Short → recordsLeft s ws i at ≡ false
-  left-none e = left-short s ws i at h (unsaid ws i e)
-
-  module _ {r : Record} (q : recordAt ws i ≡ Whole r) where
-    said-is : whole ws i ≡ r
-    said-is = sym (said ws i q .is)
-
-    pub left-kind : kindOk (statementAt ws i) ≡ false → recordsLeft s ws i at ≡ false
-    left-kind e = records-kind s ws i at h (said ws i q .stated) e
-
-    pub left-gap : gap (length s) (r .start) (tokensAt s at) ≡ false → recordsLeft s ws i at ≡ false
-    left-gap e = records-gap s ws i at h (said ws i q .stated) (ap (λ (x : Record). gap (length s) (x .start) (tokensAt s at)) said-is ∙ e)
-
-    module _ (g : gap (length s) (r .start) (tokensAt s at) ≡ true) where
-      gap-there : gap (length s) (getD ws (i + 1) 0) (tokensAt s at) ≡ true
-      gap-there = ap (λ (x : Record). gap (length s) (x .start) (tokensAt s at)) said-is ∙ g
-
-      pub left-parts : partsLeft s ws (r .parts) (i + 4) (r .end) false (r .start) ≡ false → recordsLeft s ws i at ≡ false
-      left-parts e =
-          records-parts s ws i at h (said ws i q .stated) gap-there (ap (λ (x : Record). partsLeft s ws (x .parts) (i + 4) (x .end) false (x .start)) said-is ∙ e)
-
-      pub left-on : kindOk (statementAt ws i) ≡ true → partsLeft s ws (r .parts) (i + 4) (r .end) false (r .start) ≡ true
-          → recordsLeft s ws i at ≡ recordsLeft s ws (r .next) (r .end)
-      left-on k e =
-          records-on s ws i at h (said ws i q .stated) gap-there k (ap (λ (x : Record). partsLeft s ws (x .parts) (i + 4) (x .end) false (x .start)) said-is ∙ e)
-          ∙ ap (λ (x : Record). recordsLeft s ws (x .next) (x .end)) said-is
-
--- the whole pass is the test of fit
-pub left-all : (s ws : List ℕ) → recordsLeft s ws 0 0 ≡ fits (length s) (placedIn s) ws
-left-all s ws = ap (passes (length s) ws) (tokens-start s) ∙ fit-law s ws
+-- the whole walk is the test of fit
+pub left-all : (s t ws : List ℕ) → recordsLeft s t ws 0 0 ≡ fitsIn s t ws
+unfolding fitsIn
+left-all s t ws = refl

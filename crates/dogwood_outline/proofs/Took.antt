@@ -36,7 +36,7 @@ pub record Took (s : List ℕ) (i : ℕ) (t : TokenOf) (c : CursorOf) : Type 0 w
   pub onward : i < c .at
   pub inside : c .at ≤ length s
 
-plain-kind : (k : Kind) → leb 2 (kindNumber k) ≡ not (isWhitespace k) && not (isComment k)
+pub plain-kind : (k : Kind) → leb 2 (kindNumber k) ≡ not (isWhitespace k) && not (isComment k)
 unfolding kindNumber isWhitespace isComment
 plain-kind Whitespace = refl
 plain-kind Comment = refl
@@ -46,7 +46,7 @@ plain-kind Number = refl
 plain-kind Symbol = refl
 plain-kind Other = refl
 
-comment-kind : (k : Kind) → eqb (kindNumber k) 1 ≡ isComment k
+pub comment-kind : (k : Kind) → eqb (kindNumber k) 1 ≡ isComment k
 unfolding kindNumber isComment
 comment-kind Whitespace = refl
 comment-kind Comment = refl

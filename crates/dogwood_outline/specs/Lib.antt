@@ -4,3 +4,5 @@ pub mod Pass
 pub mod Search
 pub mod Verdicts
 pub mod Numbers
+pub mod Table
+pub mod Judges

@@ -8,8 +8,6 @@ use Rattle.dogwood_rules.specs.Basic.{every, some?}
 use Rattle.dogwood_rules.specs.Utf8.{decode}
 use Rattle.dogwood_rules.specs.Token.{Token, Placed, tokenise, placed, tokens}
 use Rattle.dogwood_rules.specs.Outline.{Span, Statement, statements, upTo, from, plain, balanced, kindOk}
-use Rattle.dogwood_outline.specs.declared.walks.Walked.{Walked}
-use Rattle.dogwood_outline.specs.declared.walks.Walked.the-variants.{Sound, Off}
 
 -- the placed tokens of a text: of any bytes, those before the first bad character or string without end
 unfoldable pub placedIn : List ℕ → List Placed
@@ -58,8 +56,3 @@ module _ (end : ℕ) where
 
   unfoldable pub passes : List ℕ → List Placed → Bool
   passes words ps = eqb (length (statements words .1)) 0 && outlinePass (statements words .0) ps
-
--- what the walk over a part answers
-abbrev pub walkedOf : Bool → Bool → Walked
-walkedOf true seen = Sound seen
-walkedOf false seen = Off

@@ -58,7 +58,7 @@ pub judges-only : (text outline : List ℕ) (n m p q : ℕ) → Judges text outl
 judges-only text outline n m p q a b = (cc, cc)
 
 -- the verdict again
-abbrev verdictOf : ℕ → ℕ → Verdict
+abbrev pub verdictOf : ℕ → ℕ → Verdict
 verdictOf n p =
     if eqb n 0 then Fine
     else if eqb n 2 then Remarked p
@@ -66,15 +66,9 @@ verdictOf n p =
     else if eqb n 4 then Misfit
     else Deep p
 
-again : (a : Verdict) → verdictOf (number a) (place a) ≡ a
+pub again : (a : Verdict) → verdictOf (number a) (place a) ≡ a
 again Misfit = refl
 again (Remarked n) = refl
 again Empty = refl
 again (Deep n) = refl
 again Fine = refl
-
--- no second verdict keeps the promise of `judge`
-pub judge-only : (text outline : List ℕ) (a b : Verdict) → Judges text outline (number a) (place a) → Judges text outline (number b) (place b) → a ≡ b
-judge-only text outline a b p q =
-    let h = judges-only text outline (number a) (number b) (place a) (place b) p q in
-    sym (again a) ∙ (λ i. verdictOf (h .0 i) (h .1 i)) ∙ again b

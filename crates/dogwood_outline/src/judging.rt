@@ -1,6 +1,7 @@
-// Answers 4, 2, 3 and 5, in this order, of a text that stands behind its mark.
+// Answers 4, 2, 3 and 5, in this order, of a text that stands behind its mark and of its tokens.
 ghost use mathlib.Core.Path.{_≡_};
-ghost use Rattle.dogwood_outline.specs.Verdicts.{number, place, Judges};
+ghost use Rattle.dogwood_outline.specs.Verdicts.{number, place};
+ghost use Rattle.dogwood_outline.specs.Judges.{JudgesIn};
 use crate::fitting::fit;
 use crate::searches::deep_opener;
 use crate::searches::first_comment;
@@ -20,23 +21,23 @@ pub enum Verdict {
     Fine,
 }
 
-// Judges any bytes and any words: of bytes that are no UTF-8, or have a string without end, by the tokens before that place.
-pub fn judge(text: &[u8], outline: &[u32]) -> Verdict
-    ensures { λ r. ⌜ Judges (now (text .entry)) (now (outline .entry)) (number r) (place r) ⌝ }
+// Judges any bytes by any words for their tokens.
+pub fn judge(text: &[u8], table: &[u32], outline: &[u32]) -> Verdict
+    ensures { λ r. ⌜ JudgesIn (now (text .entry)) (now (table .entry)) (now (outline .entry)) (number r) (place r) ⌝ }
 {
-    if !fit(text, outline) {
+    if !fit(text, table, outline) {
         return Verdict::Misfit;
     }
-    match first_comment(text, outline) {
+    match first_comment(text, table, outline) {
         Found::At(place) => {
             return Verdict::Remarked(place);
         }
         Found::Nothing => {}
     }
-    if nothing_there(text, outline) {
+    if nothing_there(text, table, outline) {
         return Verdict::Empty;
     }
-    match deep_opener(text) {
+    match deep_opener(text, table) {
         Found::At(place) => Verdict::Deep(place),
         Found::Nothing => Verdict::Fine,
     }

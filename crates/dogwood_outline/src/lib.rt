@@ -3,6 +3,7 @@ mod brackets;
 mod fitting;
 mod judging;
 mod records;
+mod rows;
 mod searches;
 mod testing;
 mod walks;

@@ -2,56 +2,58 @@
 ghost use mathlib.Core.Path.{_≡_};
 ghost use mathlib.Core.Bool.{_&&_};
 ghost use lib.Dec.{eqb};
-ghost use lib.ListN.{length};
-ghost use Rattle.dogwood_rules.specs.Outline.{statements, upTo};
-ghost use Rattle.dogwood_rules.specs.Searches.{commentIn, tooDeep};
-ghost use Rattle.dogwood_syntax.specs.Cursor.{tokensAt};
-ghost use Rattle.dogwood_outline.specs.Search.{foundOf, absent, commentAt};
-ghost use Rattle.dogwood_outline.specs.Pass.{placedIn};
+ghost use lib.ListN.{length, drop};
+ghost use Rattle.dogwood_rules.specs.Outline.{statements};
+ghost use Rattle.dogwood_outline.specs.Search.{foundOf, absent};
+ghost use Rattle.dogwood_outline.specs.Table.{commentBefore, firstCommentIn, deepIn};
 use crate::brackets::closes;
 use crate::brackets::opens;
 use crate::records::Reading;
 use crate::records::record_at;
-use dogwood_syntax::Cursor;
-use dogwood_syntax::Step;
+use crate::rows::Row;
+use crate::rows::row_at;
+use crate::rows::skip;
 use utf8::Found;
 
 // The nesting that is allowed.
 const DEEPEST: usize = 64;
 
-// The first comment from a cursor on that starts before n.
-pub(crate) fn comment_before(text: &[u8], from: Cursor, n: usize) -> Found
-    ensures { λ r. ⌜ r ≡ foundOf (commentIn (upTo n (tokensAt (now (text .entry)) (from .at)))) ⌝ }
+// The first comment from a word on that starts before n.
+fn comment_before(table: &[u32], from: usize, n: usize) -> Found
+    ensures { λ r. ⌜ r ≡ foundOf (commentBefore n (drop from (now (table .entry)))) ⌝ }
 {
-    let mut cursor = from;
+    let mut i = from;
     loop {
-        let Step::Token(t, next) = cursor.next(text) else {
+        let Row::Token(kind, start) = row_at(table, i) else {
             return Found::Nothing;
         };
-        if n <= t.start {
+        if n <= start {
             return Found::Nothing;
         }
-        if t.kind == 1 {
-            return Found::At(t.start);
+        if kind == 1 {
+            return Found::At(start);
         }
-        cursor = next;
+        i += 3;
     }
 }
 
-// The first comment inside a statement, each looked for from its own start on.
-pub(crate) fn first_comment(text: &[u8], outline: &[u32]) -> Found
-    ensures { λ r. ⌜ r ≡ commentAt (now (text .entry)) (statements (now (outline .entry)) .0) ⌝ }
+// The first comment inside a statement.
+pub(crate) fn first_comment(text: &[u8], table: &[u32], outline: &[u32]) -> Found
+    ensures { λ r. ⌜ r ≡ foundOf (firstCommentIn (now (text .entry)) (now (table .entry)) (statements (now (outline .entry)) .0) 0) ⌝ }
 {
-    let mut i = 0;
+    let mut at: usize = 0;
+    let mut i: usize = 0;
     while i < outline.len() {
         let Reading::Whole(r) = record_at(outline, i) else {
             return Found::Nothing;
         };
-        match comment_before(text, Cursor { at: r.start }, r.end) {
+        let start = skip(table, at, r.start);
+        match comment_before(table, start, r.end) {
             Found::At(place) => {
                 return Found::At(place);
             }
             Found::Nothing => {
+                at = skip(table, start, r.end);
                 i = r.next;
             }
         }
@@ -59,37 +61,37 @@ pub(crate) fn first_comment(text: &[u8], outline: &[u32]) -> Found
     Found::Nothing
 }
 
-// Whether an outline has no words and a text no comment.
-pub(crate) fn nothing_there(text: &[u8], outline: &[u32]) -> bool
-    ensures { λ r. ⌜ r ≡ (eqb (length (now (outline .entry))) 0 && absent (commentIn (placedIn (now (text .entry))))) ⌝ }
+// Whether an outline has no words and a table no comment.
+pub(crate) fn nothing_there(text: &[u8], table: &[u32], outline: &[u32]) -> bool
+    ensures { λ r. ⌜ r ≡ (eqb (length (now (outline .entry))) 0 && absent (commentBefore (length (now (text .entry))) (now (table .entry)))) ⌝ }
 {
     if outline.len() != 0 {
         return false;
     }
-    let Found::At(_) = comment_before(text, Cursor::new(), text.len()) else {
+    let Found::At(_) = comment_before(table, 0, text.len()) else {
         return true;
     };
     false
 }
 
 // The first opener that is nested too deep, in the text as a whole.
-pub(crate) fn deep_opener(text: &[u8]) -> Found
-    ensures { λ r. ⌜ r ≡ foundOf (tooDeep 0 (tokensAt (now (text .entry)) 0)) ⌝ }
+pub(crate) fn deep_opener(text: &[u8], table: &[u32]) -> Found
+    ensures { λ r. ⌜ r ≡ foundOf (deepIn (now (text .entry)) 0 (now (table .entry))) ⌝ }
 {
-    let mut cursor = Cursor::new();
+    let mut i: usize = 0;
     let mut depth: usize = 0;
     loop {
-        let Step::Token(t, next) = cursor.next(text) else {
+        let Row::Token(kind, start) = row_at(table, i) else {
             return Found::Nothing;
         };
-        let first = utf8::byte(text, t.start);
-        cursor = next;
-        if opens(t.kind, first) {
+        let first = utf8::byte(text, start);
+        i += 3;
+        if opens(kind, first) {
             if depth == DEEPEST {
-                return Found::At(t.start);
+                return Found::At(start);
             }
             depth += 1;
-        } else if closes(t.kind, first) {
+        } else if closes(kind, first) {
             if 0 < depth {
                 depth -= 1;
             }

@@ -27,9 +27,10 @@ pub fn test_outline(source: &[u8], outline: &[u32], table: &mut [u32]) -> Tested
         Tokenized::TooLong => Tested::TooLong,
         Tokenized::NotUtf8(place) => Tested::NotUtf8(place),
         Tokenized::Small(tokens) => Tested::Small(tokens),
-        Tokenized::Done(_) => {
+        Tokenized::Done(tokens) => {
             let start = utf8::split_bom(source);
-            if fit(&source[start..], outline) {
+            let end = 3 * tokens;
+            if fit(&source[start..], &table[0..end], outline) {
                 return Tested::Fits;
             }
             Tested::Misfit

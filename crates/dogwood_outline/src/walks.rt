@@ -1,65 +1,72 @@
-// Walks over the tokens of a text up to a place, which must be a token's start or the text's end.
+// Walks over the tokens of a table up to a place, which must be a token's start or the text's end.
 ghost use mathlib.Core.Path.{_≡_};
-ghost use lib.ListN.{length};
-ghost use Rattle.dogwood_syntax.specs.Cursor.{tokensAt};
-ghost use Rattle.dogwood_outline.specs.Pass.{gap, part, spoken, walkedOf};
+ghost use mathlib.Core.Bool.{false};
+ghost use lib.ListN.{drop};
+ghost use Rattle.dogwood_outline.specs.Search.{foundOf};
+ghost use Rattle.dogwood_outline.specs.Table.{gapIn, partIn, walkedOf};
 use crate::brackets::closes;
 use crate::brackets::opens;
-use dogwood_syntax::Cursor;
-use dogwood_syntax::Step;
+use crate::rows::Row;
+use crate::rows::row_at;
+use utf8::Found;
 
-// Whether only white space and comments stand from a cursor up to n.
-pub(crate) fn gap(text: &[u8], from: Cursor, n: usize) -> bool
-    ensures { λ r. ⌜ r ≡ gap (length (now (text .entry))) n (tokensAt (now (text .entry)) (from .at)) ⌝ }
+// Where n stands in a table, if only white space and comments stand between a word and it.
+pub(crate) fn gap(table: &[u32], from: usize, end: usize, n: usize) -> Found
+    ensures { λ r. ⌜ r ≡ foundOf (gapIn end n from (drop from (now (table .entry)))) ⌝ }
 {
-    let mut cursor = from;
+    let mut i = from;
     loop {
-        let Step::Token(t, next) = cursor.next(text) else {
-            return text.len() == n;
+        let Row::Token(kind, start) = row_at(table, i) else {
+            if end == n {
+                return Found::At(i);
+            }
+            return Found::Nothing;
         };
-        if n <= t.start {
-            return t.start == n;
+        if n <= start {
+            if start == n {
+                return Found::At(i);
+            }
+            return Found::Nothing;
         }
-        if 2 <= t.kind {
-            return false;
+        if 2 <= kind {
+            return Found::Nothing;
         }
-        cursor = next;
+        i += 3;
     }
 }
 
-// A part that is sound, with whether a token stands in it that is neither white space nor comment; or one that is not.
+// A part that is sound, with whether a token stands in it that is neither white space nor comment, and where it ends in the table; or one that is not.
 pub(crate) enum Walked {
-    Sound(bool),
+    Sound(bool, usize),
     Off,
 }
 
-// Whether brackets balance from a cursor up to n.
-pub(crate) fn part(text: &[u8], from: Cursor, n: usize) -> Walked
-    ensures { λ r. ⌜ r
-        ≡ walkedOf (part (length (now (text .entry))) 0 n (tokensAt (now (text .entry)) (from .at))) (spoken n (tokensAt (now (text .entry)) (from .at))) ⌝ }
+// Where n stands in a table, if brackets balance between a word and it.
+pub(crate) fn part(text: &[u8], table: &[u32], from: usize, n: usize) -> Walked
+    ensures { λ r. ⌜ r ≡ walkedOf (partIn (now (text .entry)) n 0 false from (drop from (now (table .entry)))) ⌝ }
 {
-    let mut cursor = from;
+    let mut i = from;
     let mut depth: usize = 0;
     let mut seen = false;
     loop {
-        let Step::Token(t, next) = cursor.next(text) else {
+        let Row::Token(kind, start) = row_at(table, i) else {
             if (depth == 0) & (text.len() == n) {
-                return Walked::Sound(seen);
+                return Walked::Sound(seen, i);
             }
             return Walked::Off;
         };
-        if n <= t.start {
-            if (depth == 0) & (t.start == n) {
-                return Walked::Sound(seen);
+        if n <= start {
+            if (depth == 0) & (start == n) {
+                return Walked::Sound(seen, i);
             }
             return Walked::Off;
         }
-        let first = utf8::byte(text, t.start);
-        seen = seen | (2 <= t.kind);
-        cursor = next;
-        if opens(t.kind, first) {
+        let first = utf8::byte(text, start);
+        seen = seen | (2 <= kind);
+        i += 3;
+        if opens(kind, first) {
             depth += 1;
-        } else if closes(t.kind, first) {
+        } else if closes(kind, first) {
             if depth == 0 {
                 return Walked::Off;
             }

@@ -39,7 +39,16 @@ pub(crate) fn fill(text: &[u8], table: &mut [u32]) -> usize
     loop {
         match cursor.next(text) {
             Step::Token(token, behind) => {
-                put(table, n, token);
+                // the bounds are those of the cursors: they stand in registers
+                put(
+                    table,
+                    n,
+                    Token {
+                        kind: token.kind,
+                        start: cursor.at,
+                        end: behind.at,
+                    },
+                );
                 cursor = behind;
                 n += 1;
             }

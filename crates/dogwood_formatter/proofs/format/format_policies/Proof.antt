@@ -1,6 +1,7 @@
 use mathlib.Core.Path.{refl}
 use native.Mathlib.Omega.{arith}
-use Rattle.dogwood_formatter.proofs.Answering.{roomy, ample, part-filled, refused-answered, unended-answered, settled-answered}
+use Rattle.dogwood_outline.proofs.Outcomes.{roomy, ample}
+use Rattle.dogwood_formatter.proofs.Answering.{part-ready, refused-answered, unended-answered, settled-answered}
 use borrow.Author.Needs.{needs}
 use Rattle.dogwood_formatter.proofs.format.format_policies.Statement.{statement}
 use Rattle.dogwood_formatter.proofs.format.format_policies.Tie as tie
@@ -29,7 +30,7 @@ enum-known-tokens-2 c = search needs
 mul-end : tie.Need-mul-end
 mul-end c =
     let start = c .before .before .before .before .before .before .before .before .before .before .before in
-    let r = roomy (start .args .source .now) (start .args .outline .now) (start .args .table .now) (start .args .output .now) (c .before .before .before .before .before .tokenize .last .1 .0) _ (c .before .tokens2 .given .1) (c .before .before .before .before .before .tokenize .ensures) refl in
+    let r = roomy (start .args .source .now) (start .args .table .now) (c .before .before .before .before .before .tokenize .last .1 .0) _ (c .before .tokens2 .given .1) (c .before .before .before .before .before .tokenize .ensures) refl in
     let g = start .good in
     omega arith
 
@@ -42,13 +43,13 @@ part-format-tokens-start c = search needs
 part-format-tokens-end : tie.Need-part-format-tokens-end
 part-format-tokens-end c =
     let start = c .before .before .before .before .before .before .before .before .before .before .before .before .before in
-    let r = ample (start .args .source .now) (start .args .outline .now) (start .args .table .now) (start .args .output .now) (c .before .before .before .before .before .before .before .tokenize .last .1 .0) _ (c .before .before .before .tokens2 .given .1) (c .before .before .before .before .before .before .before .tokenize .ensures) refl in
+    let r = ample (start .args .source .now) (start .args .table .now) (c .before .before .before .before .before .before .before .tokenize .last .1 .0) _ (c .before .before .before .tokens2 .given .1) (c .before .before .before .before .before .before .before .tokenize .ensures) refl in
     omega arith
 
 format-tokens-requires : tie.Need-format-tokens-requires
 format-tokens-requires c κs =
     let start = c .before .before .before .before .before .before .before .before .before .before .before .before .before .before in
-    part-filled (start .args .source .now) (start .args .outline .now) (start .args .table .now) (start .args .output .now) (c .before .before .before .before .before .before .before .before .tokenize .last .1 .0) _ (c .before .before .before .before .tokens2 .given .1) (c .before .before .before .before .before .before .before .before .tokenize .ensures) refl
+    part-ready (start .args .source .now) (start .args .outline .now) (start .args .table .now) (start .args .output .now) (c .before .before .before .before .before .before .before .before .tokenize .last .1 .0) _ (c .before .before .before .before .tokens2 .given .1) (c .before .before .before .before .before .before .before .before .tokenize .ensures) refl
 
 same-length : tie.Need-same-length
 same-length c = search needs

@@ -57,7 +57,7 @@ offer-file-requires : tie.Need-offer-file-requires
 offer-file-requires c κs =
     let start = c .before .before .before .before .before .before .before .before .before .before in
     fine-ready (start .args .source .now) (start .args .outline .now) (start .args .table .now) (start .pre)
-    (judged-as (start .args .source .now) (start .args .outline .now) _ (c .before .before .before .before .before .split-bom .ensures) (c .before .enum-told3 .given .1) (c .before .before .before .judge .ensures))
+    (judged-as (start .args .source .now) (start .args .outline .now) _ (start .pre .1) (c .before .before .before .before .before .split-bom .ensures) (c .before .enum-told3 .given .1) (c .before .before .before .judge .ensures))
 
 same-length : tie.Need-same-length
 same-length c = search needs
@@ -69,7 +69,7 @@ returns c =
     record {
       verdict = 0;
       location = 0;
-      judged = judged-as (start .args .source .now) (start .args .outline .now) _ (c .before .before .before .before .before .before .before .before .before .split-bom .ensures) (c .before .before .before .before .before .enum-told3 .given .1) (c .before .before .before .before .before .before .before .judge .ensures);
+      judged = judged-as (start .args .source .now) (start .args .outline .now) _ (start .pre .1) (c .before .before .before .before .before .before .before .before .before .split-bom .ensures) (c .before .before .before .before .before .enum-told3 .given .1) (c .before .before .before .before .before .before .before .judge .ensures);
       given = given-room o 0 0 (omega (arith, c .if1 .taken)) refl refl (o .count);
     }
 
@@ -81,7 +81,7 @@ returns-2 c =
     record {
       verdict = 4;
       location = 0;
-      judged = judged-as (c .before .before .before .before .before .before .before .before .before .before .before .before .before .args .source .now) (c .before .before .before .before .before .before .before .before .before .before .before .before .before .args .outline .now) _ (c .before .before .before .before .before .before .before .before .split-bom .ensures) (c .before .before .before .before .enum-told .given .1) (c .before .before .before .before .before .before .judge .ensures);
+      judged = judged-as (c .before .before .before .before .before .before .before .before .before .before .before .before .before .args .source .now) (c .before .before .before .before .before .before .before .before .before .before .before .before .before .args .outline .now) _ (c .before .before .before .before .before .before .before .before .before .before .before .before .before .pre .1) (c .before .before .before .before .before .before .before .before .split-bom .ensures) (c .before .before .before .before .enum-told .given .1) (c .before .before .before .before .before .before .judge .ensures);
       given = c .before .before .hand-back .ensures;
     }
 
@@ -93,7 +93,7 @@ returns-3 c =
     record {
       verdict = 2;
       location = _;
-      judged = judged-as (c .before .before .before .before .before .before .before .before .before .before .before .before .before .before .args .source .now) (c .before .before .before .before .before .before .before .before .before .before .before .before .before .before .args .outline .now) _ (c .before .before .before .before .before .before .before .before .before .split-bom .ensures) (c .before .before .before .before .before .place .given .1) (c .before .before .before .before .before .before .before .judge .ensures);
+      judged = judged-as (c .before .before .before .before .before .before .before .before .before .before .before .before .before .before .args .source .now) (c .before .before .before .before .before .before .before .before .before .before .before .before .before .before .args .outline .now) _ (c .before .before .before .before .before .before .before .before .before .before .before .before .before .before .pre .1) (c .before .before .before .before .before .before .before .before .before .split-bom .ensures) (c .before .before .before .before .before .place .given .1) (c .before .before .before .before .before .before .before .judge .ensures);
       given = c .before .before .hand-back2 .ensures;
     }
 
@@ -105,7 +105,7 @@ returns-4 c =
     record {
       verdict = 3;
       location = 0;
-      judged = judged-as (c .before .before .before .before .before .before .before .before .before .before .before .before .before .args .source .now) (c .before .before .before .before .before .before .before .before .before .before .before .before .before .args .outline .now) _ (c .before .before .before .before .before .before .before .before .split-bom .ensures) (c .before .before .before .before .enum-told2 .given .1) (c .before .before .before .before .before .before .judge .ensures);
+      judged = judged-as (c .before .before .before .before .before .before .before .before .before .before .before .before .before .args .source .now) (c .before .before .before .before .before .before .before .before .before .before .before .before .before .args .outline .now) _ (c .before .before .before .before .before .before .before .before .before .before .before .before .before .pre .1) (c .before .before .before .before .before .before .before .before .split-bom .ensures) (c .before .before .before .before .enum-told2 .given .1) (c .before .before .before .before .before .before .judge .ensures);
       given = c .before .before .hand-back3 .ensures;
     }
 
@@ -117,7 +117,7 @@ returns-5 c =
     record {
       verdict = 5;
       location = _;
-      judged = judged-as (c .before .before .before .before .before .before .before .before .before .before .before .before .before .before .args .source .now) (c .before .before .before .before .before .before .before .before .before .before .before .before .before .before .args .outline .now) _ (c .before .before .before .before .before .before .before .before .before .split-bom .ensures) (c .before .before .before .before .before .place2 .given .1) (c .before .before .before .before .before .before .before .judge .ensures);
+      judged = judged-as (c .before .before .before .before .before .before .before .before .before .before .before .before .before .before .args .source .now) (c .before .before .before .before .before .before .before .before .before .before .before .before .before .before .args .outline .now) _ (c .before .before .before .before .before .before .before .before .before .before .before .before .before .before .pre .1) (c .before .before .before .before .before .before .before .before .before .split-bom .ensures) (c .before .before .before .before .before .place2 .given .1) (c .before .before .before .before .before .before .before .judge .ensures);
       given = c .before .before .hand-back4 .ensures;
     }
 
@@ -130,7 +130,7 @@ returns-6 c =
     record {
       verdict = 0;
       location = 0;
-      judged = judged-as (start .args .source .now) (start .args .outline .now) _ (c .before .before .before .before .before .before .before .before .before .split-bom .ensures) (c .before .before .before .before .before .enum-told3 .given .1) (c .before .before .before .before .before .before .before .judge .ensures);
+      judged = judged-as (start .args .source .now) (start .args .outline .now) _ (start .pre .1) (c .before .before .before .before .before .before .before .before .before .split-bom .ensures) (c .before .before .before .before .before .enum-told3 .given .1) (c .before .before .before .before .before .before .before .judge .ensures);
       given = given-none (fine-offered (start .args .source .now) (start .args .outline .now) (start .args .table .now) (start .pre) (c .before .before .before .offer-file .ensures)) 0 0 (omega (arith, c .if1 .left));
     }
 

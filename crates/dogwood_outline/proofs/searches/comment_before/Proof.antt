@@ -1,53 +1,60 @@
 use borrow.Author.Needs.{needs}
 use Prim.Native.Nat.{_-_}
-use mathlib.Core.Path.{_≡_, refl, sym, _∙_}
+use mathlib.Core.Path.{_≡_, refl, sym, ap, _∙_}
 use native.Mathlib.Omega.{arith}
-use lib.ListN.{length}
-use Rattle.dogwood_outline.proofs.Took.{took, no-token}
-use Rattle.dogwood_outline.proofs.SearchSteps.{commentFrom, comment-done, comment-stop, comment-here, comment-on}
+use lib.ListN.{length, drop}
+use Rattle.dogwood_outline.specs.Search.{foundOf}
+use Rattle.dogwood_outline.specs.Table.{commentBefore}
+use Rattle.dogwood_outline.proofs.RowSteps.{row-stands}
+use Rattle.dogwood_outline.proofs.TableSearch.{comment-done, comment-stop, comment-here, comment-on}
 use Rattle.dogwood_outline.proofs.searches.comment_before.Statement.{statement}
 use Rattle.dogwood_outline.proofs.searches.comment_before.Tie as tie
-use Rattle.dogwood_outline.proofs.searches.comment_before.Reads as reads
-use Rattle.dogwood_outline.proofs.searches.comment_before.Lts as lts
-use Rattle.dogwood_syntax.proofs.cursor.Cursor.next.Reads as next-reads
 
 abbrev Inv-loop : tie.InvT-loop
-Inv-loop text n cursor₀ cursor = commentFrom text n (cursor .at) ≡ commentFrom text n (cursor₀ .at)
+Inv-loop table from n i₀ i = commentBefore n (drop i table) ≡ commentBefore n (drop from table)
 
 abbrev μ-loop : tie.MeasureT-loop
-μ-loop text n cursor₀ cursor = length text - cursor .at
+μ-loop table from n i₀ i = length table - i
 
--- src/searches.rt:23:5
 loop-holds : tie.Need-loop-holds Inv-loop μ-loop
 loop-holds c = refl
 
--- src/searches.rt:24:36
-next-requires : tie.Need-next-requires Inv-loop μ-loop
-next-requires c κs = search needs
+row-at-requires : tie.Need-row-at-requires Inv-loop μ-loop
+row-at-requires c κs = search needs
 
--- src/searches.rt:24:25
-enum-known-t : tie.Need-enum-known-t Inv-loop μ-loop
-enum-known-t c = search needs
+enum-known-kind : tie.Need-enum-known-kind Inv-loop μ-loop
+enum-known-kind c = search needs
 
--- src/searches.rt:25:13
+enum-told : tie.Need-enum-told Inv-loop μ-loop
+enum-told c = search needs
+
 returns : tie.Need-returns Inv-loop μ-loop
-returns c = sym (comment-done _ _ _ (no-token _ _ _ (c .match .keys2) (c .before .next .ensures))) ∙ c .before .before .loop .inv
+returns c = ap foundOf (sym (comment-done (c .before .before .before .before .before .args .table .now) (c .before .before .before .before .before .args .n) (c .before .before .before .loop .i) (sym (c .before .before .row-at .ensures) ∙ c .enum-told .given .1)) ∙ c .before .before .before .loop .inv)
 
--- src/searches.rt:28:13
 returns-2 : tie.Need-returns-2 Inv-loop μ-loop
-returns-2 c = sym (comment-stop _ _ _ (took _ _ (sym (c .before .before .before .before .before .next .ensures) ∙ c .before .before .before .t .given .1)) (c .if1 .taken)) ∙ c .before .before .before .before .before .before .loop .inv
+returns-2 c =
+    let r = row-stands (c .before .before .before .before .before .before .before .args .table .now) (c .before .before .before .before .before .loop .i) (sym (c .before .before .before .before .row-at .ensures) ∙ c .before .before .kind .given .1) in
+    ap foundOf (sym (comment-stop (c .before .before .before .before .before .before .before .args .table .now) (c .before .before .before .before .before .before .before .args .n) (c .before .before .before .before .before .loop .i) r (c .if1 .taken)) ∙ c .before .before .before .before .before .loop .inv)
 
--- src/searches.rt:31:13
 returns-3 : tie.Need-returns-3 Inv-loop μ-loop
-returns-3 c = sym (comment-here _ _ _ (took _ _ (sym (c .before .before .before .before .before .before .before .next .ensures) ∙ c .before .before .before .before .before .t .given .1)) (c .before .before .if1 .left) (c .if2 .taken)) ∙ c .before .before .before .before .before .before .before .before .loop .inv
+returns-3 c =
+    let r = row-stands (c .before .before .before .before .before .before .before .before .args .table .now) (c .before .before .before .before .before .before .loop .i) (sym (c .before .before .before .before .before .row-at .ensures) ∙ c .before .before .before .kind .given .1) in
+    ap foundOf (sym (comment-here (c .before .before .before .before .before .before .before .before .args .table .now) (c .before .before .before .before .before .before .before .before .args .n) (c .before .before .before .before .before .before .loop .i) r (c .before .if1 .left) (c .if2 .taken)) ∙ c .before .before .before .before .before .before .loop .inv)
 
--- src/searches.rt:23:5
+add-i : tie.Need-add-i Inv-loop μ-loop
+add-i c =
+    let r = row-stands (c .before .before .before .before .before .before .before .before .args .table .now) (c .before .before .before .before .before .before .loop .i) (sym (c .before .before .before .before .before .row-at .ensures) ∙ c .before .before .before .kind .given .1) in
+    omega (arith, r .inside)
+
 loop-less : tie.Need-loop-less Inv-loop μ-loop
-loop-less c = let k = (took _ _ (sym (c .before .before .before .before .before .before .before .next .ensures) ∙ c .before .before .before .before .before .t .given .1)) in omega (arith, k .onward, k .inside)
+loop-less c =
+    let r = row-stands (c .before .before .before .before .before .before .before .before .args .table .now) (c .before .before .before .before .before .before .loop .i) (sym (c .before .before .before .before .before .row-at .ensures) ∙ c .before .before .before .kind .given .1) in
+    omega (arith, r .inside)
 
--- src/searches.rt:23:5
 loop-again : tie.Need-loop-again Inv-loop μ-loop
-loop-again c = sym (comment-on _ _ _ (took _ _ (sym (c .before .before .before .before .before .before .before .next .ensures) ∙ c .before .before .before .before .before .t .given .1)) (c .before .before .if1 .left) (c .if2 .left)) ∙ c .before .before .before .before .before .before .before .before .loop .inv
+loop-again c =
+    let r = row-stands (c .before .before .before .before .before .before .before .before .args .table .now) (c .before .before .before .before .before .before .loop .i) (sym (c .before .before .before .before .before .row-at .ensures) ∙ c .before .before .before .kind .given .1) in
+    sym (comment-on (c .before .before .before .before .before .before .before .before .args .table .now) (c .before .before .before .before .before .before .before .before .args .n) (c .before .before .before .before .before .before .loop .i) r (c .before .if1 .left) (c .if2 .left)) ∙ c .before .before .before .before .before .before .loop .inv
 
 pub comment-before-spec : {M : Type 1} → statement M
 comment-before-spec =
@@ -56,10 +63,12 @@ comment-before-spec =
     Inv-loop
     μ-loop
     loop-holds
-    next-requires
-    enum-known-t
+    row-at-requires
+    enum-known-kind
+    enum-told
     returns
     returns-2
     returns-3
+    add-i
     loop-less
     loop-again)

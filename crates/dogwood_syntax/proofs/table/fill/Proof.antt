@@ -5,9 +5,8 @@ use native.Mathlib.Nat.{zero-add}
 use lib.ListN.{length}
 use lib.Seq.{sets}
 use lib.Dec.{leb}
-use mathlib.Core.List.{List}
+use mathlib.Core.List.{List, [], _∷_}
 use Rattle.dogwood_rules.specs.Token.{Placed, wordsOf}
-use Rattle.dogwood_syntax.specs.Table.{recordOf}
 use borrow.Author.Needs.{needs}
 use Rattle.dogwood_syntax.specs.Cursor.{tokensAt}
 use Rattle.dogwood_syntax.proofs.Steps.{next-onward, next-token, next-bounds, words-next, next-ended, next-unended}
@@ -62,19 +61,22 @@ loop-again c =
     let n = c .before .before .before .before .before .before .before .before .loop .n in
     let t = c .before .before .before .before .before .before .before .before .loop .table in
     let token = c .before .before .before .before .before .token .given .0 .0 in
-    let rest = tokensAt s (c .before .before .before .before .before .token .given .0 .1 .0 .at) in
+    let behind = c .before .before .before .before .before .token .given .0 .1 .0 .at in
+    let rest = tokensAt s behind in
     let h = (sym (c .before .before .before .before .before .before .before .next .ensures) ∙ c .before .before .before .before .before .token .given .1) in
     let o = next-onward s at h in
+    let b = next-bounds s at h in
     let m = ap length (next-token s at h .tokens) in
     let v = c .before .before .before .before .before .before .before .before .loop .inv in (
       omega arith,
       o .1,
-      put-length t (c .before .before .put .last .0) (recordOf token) (3 * n) (leb (3 * n + 3) (length t)) (c .before .before .put .ensures) ∙ v .2,
+      put-length t (c .before .before .put .last .0) (token .kind ∷ at ∷ behind ∷ []) (3 * n) (leb (3 * n + 3) (length t)) (c .before .before .put .ensures) ∙ v .2,
       omega (arith, v .3),
       λ f.
           let w = length-words (tokensAt s 0) in
           let r : 3 * n + 3 ≤ length t = omega (arith, v .2, v .3) in
-          put-on t (c .before .before .put .last .0) n (token .kind) (token .start) (token .end) (wordsOf rest) (c .before .before .put .ensures) r
+          put-on t (c .before .before .put .last .0) n (token .kind) at behind (wordsOf rest) (c .before .before .put .ensures) r
+          ∙ (λ i. sets t (3 * n) (token .kind ∷ sym (b .0) i ∷ sym (b .1) i ∷ wordsOf rest))
           ∙ ap (sets t (3 * n)) (sym (words-next s at h)) ∙ v .4 f,
     )
 

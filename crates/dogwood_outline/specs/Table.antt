@@ -1,0 +1,115 @@
+-- The test of fit and the searches as walks over the words of a token table. How the code works, on any words; what it means stands in dogwood_rules, and
+-- proofs/Tabled ties the two for the words of a text's tokens.
+use mathlib.Core.Bool.{Bool, true, false, not, _&&_, _||_}
+use mathlib.Core.List.{List, [], _∷_}
+use mathlib.Core.Option.{Option, none, some}
+use Prim.Native.Nat.{ℕ, suc, _+_, _-_}
+use lib.Dec.{leb, ltb, eqb}
+use lib.ListN.{length, getD, drop}
+use Rattle.dogwood_rules.specs.Basic.{if_then_else_}
+use Rattle.dogwood_rules.specs.Outline.{Span, Statement, statements, kindOk}
+use Rattle.dogwood_rules.specs.Searches.{orElse}
+use Rattle.dogwood_outline.specs.declared.rows.Row.{Row}
+use Rattle.dogwood_outline.specs.declared.rows.Row.the-variants.{Token, Ended}
+use Rattle.dogwood_outline.specs.declared.walks.Walked.{Walked}
+use Rattle.dogwood_outline.specs.declared.walks.Walked.the-variants.{Sound, Off}
+use Rattle.dogwood_outline.specs.Brackets.{opening, closing}
+use Rattle.dogwood_outline.specs.Search.{absent}
+use Rattle.dogwood_outline.specs.Verdicts.{nested}
+
+-- the kind and the start of the token whose words are the first of these
+abbrev pub rowOf : List ℕ → Row
+rowOf [] = Ended
+rowOf (k ∷ []) = Ended
+rowOf (k ∷ s ∷ []) = Ended
+rowOf (k ∷ s ∷ e ∷ ws) = Token k s
+
+-- what the walk over a part answers
+abbrev pub walkedOf : Option (Bool × ℕ) → Walked
+walkedOf none = Off
+walkedOf (some r) = Sound (r .0) (r .1)
+
+-- From word i on, of which these are the words: the first word of the first token that starts at n or behind it
+unfoldable pub skipIn : ℕ → ℕ → List ℕ → ℕ
+skipIn n i [] = i
+skipIn n i (k ∷ []) = i
+skipIn n i (k ∷ s ∷ []) = i
+skipIn n i (k ∷ s ∷ e ∷ ws) = if ltb s n then skipIn n (i + 3) ws else i
+
+-- .. if only white space and comments stand before it, and it starts at n; the text ends at end
+unfoldable pub gapIn : ℕ → ℕ → ℕ → List ℕ → Option ℕ
+gapIn end n i [] = if eqb end n then some i else none
+gapIn end n i (k ∷ []) = if eqb end n then some i else none
+gapIn end n i (k ∷ s ∷ []) = if eqb end n then some i else none
+gapIn end n i (k ∷ s ∷ e ∷ ws) =
+    if ltb s n then if leb 2 k then none else gapIn end n (i + 3) ws else if eqb s n then some i else none
+
+-- .. if brackets balance from depth d up to it, and it starts at n; with whether a token was seen that is neither white space nor comment
+unfoldable pub partIn : List ℕ → ℕ → ℕ → Bool → ℕ → List ℕ → Option (Bool × ℕ)
+partIn text n d seen i [] = if eqb d 0 && eqb (length text) n then some (seen, i) else none
+partIn text n d seen i (k ∷ []) = if eqb d 0 && eqb (length text) n then some (seen, i) else none
+partIn text n d seen i (k ∷ s ∷ []) = if eqb d 0 && eqb (length text) n then some (seen, i) else none
+partIn text n d seen i (k ∷ s ∷ e ∷ ws) =
+    if ltb s n
+    then if opening k (getD text s 0) then partIn text n (suc d) (seen || leb 2 k) (i + 3) ws
+    else if closing k (getD text s 0) then if eqb d 0 then none else partIn text n (d - 1) (seen || leb 2 k) (i + 3) ws
+    else partIn text n d (seen || leb 2 k) (i + 3) ws
+    else if eqb d 0 && eqb s n then some (seen, i) else none
+
+-- the first comment that starts before n
+unfoldable pub commentBefore : ℕ → List ℕ → Option ℕ
+commentBefore n [] = none
+commentBefore n (k ∷ []) = none
+commentBefore n (k ∷ s ∷ []) = none
+commentBefore n (k ∷ s ∷ e ∷ ws) = if ltb s n then if eqb k 1 then some s else commentBefore n ws else none
+
+-- the first opener that is nested above 64, from depth d on
+unfoldable pub deepIn : List ℕ → ℕ → List ℕ → Option ℕ
+deepIn text d [] = none
+deepIn text d (k ∷ []) = none
+deepIn text d (k ∷ s ∷ []) = none
+deepIn text d (k ∷ s ∷ e ∷ ws) =
+    if opening k (getD text s 0) then if eqb d 64 then some s else deepIn text (suc d) ws
+    else if closing k (getD text s 0) then deepIn text (d - 1) ws
+    else deepIn text d ws
+
+module _ (text table : List ℕ) where
+  -- parts, then the end b of their statement, from word i on
+  unfoldable pub partsIn : List Span → ℕ → Bool → ℕ → Bool
+  partsIn [] b seen i = seen && not (absent (gapIn (length text) b i (drop i table)))
+  partsIn (s ∷ ss) b seen i =
+      ltb (s .start) (s .stop)
+      && elim (gapIn (length text) (s .start) i (drop i table)) [
+        | none ↦ false
+        | some j ↦ elim (partIn text (s .stop) 0 false j (drop j table)) [ none ↦ false | some r ↦ partsIn ss b (seen || r .0) (r .1) ]
+      ]
+
+  -- statements, then the text's end, from word i on
+  unfoldable pub statementsIn : List Statement → ℕ → Bool
+  statementsIn [] i = not (absent (gapIn (length text) (length text) i (drop i table)))
+  statementsIn (s ∷ ss) i =
+      kindOk s
+      && elim (gapIn (length text) (s .span .start) i (drop i table)) [
+        | none ↦ false
+        | some j ↦ partsIn (s .parts) (s .span .stop) false j && statementsIn ss (skipIn (s .span .stop) j (drop j table))
+      ]
+
+  unfoldable pub fitsIn : List ℕ → Bool
+  fitsIn words = eqb (length (statements words .1)) 0 && statementsIn (statements words .0) 0
+
+  -- the first comment inside a statement, from word i on
+  unfoldable pub firstCommentIn : List Statement → ℕ → Option ℕ
+  firstCommentIn [] i = none
+  firstCommentIn (s ∷ ss) i =
+      let j = skipIn (s .span .start) i (drop i table) in
+      orElse (commentBefore (s .span .stop) (drop j table)) (firstCommentIn ss (skipIn (s .span .stop) j (drop j table)))
+
+  -- numbers 4, 2, 3 and 5 in this order, else 0, with the place
+  unfoldable pub judgedIn : List ℕ → ℕ × ℕ
+  judgedIn words =
+      if fitsIn words
+      then elim (firstCommentIn (statements words .0) 0) [
+        | some n ↦ (2, n)
+        | none ↦ if eqb (length words) 0 && absent (commentBefore (length text) table) then (3, 0) else nested (deepIn text 0 table)
+      ]
+      else (4, 0)
