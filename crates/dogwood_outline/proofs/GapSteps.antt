@@ -23,7 +23,6 @@ gap-few end n i (k ∷ []) h = refl
 gap-few end n i (k ∷ s ∷ []) h = refl
 gap-few end n i (k ∷ s ∷ e ∷ ws) h = absurd (omega arith)
 
-
 module _ (ws : List ℕ) (end n i : ℕ) where
   pub gap-ends : rowOf (drop i ws) ≡ Ended → end ≡ n → gapIn end n i (drop i ws) ≡ some i
   gap-ends e q = gap-few end n i (drop i ws) (row-ended ws i e) ∙ simp (eq-eqb end n q)

@@ -125,8 +125,8 @@ module _ (text table ws : List ℕ) where
 
 module _ (text table ws : List ℕ) (at i : ℕ) (h : i < length ws) where
   comments-step : statement (drop i ws) ≡ some (statementAt ws i, 3 + 2 * getD ws (i + 3) 0)
-    → commentsLeft text table ws at i
-    ≡ commentsFrom text table ws (skipIn (getD ws (i + 1) 0) at (drop at table)) (getD ws (i + 2) 0) (i + 4 + 2 * getD ws (i + 3) 0)
+      → commentsLeft text table ws at i
+      ≡ commentsFrom text table ws (skipIn (getD ws (i + 1) 0) at (drop at table)) (getD ws (i + 2) 0) (i + 4 + 2 * getD ws (i + 3) 0)
   unfolding firstCommentIn statementAt
   comments-step e = ap (λ (r : List Statement × List ℕ). firstCommentIn text table (r .0) at) (records-more ws i h (statementAt ws i) (getD ws (i + 3) 0) e)
 

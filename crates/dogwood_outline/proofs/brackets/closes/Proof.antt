@@ -1,14 +1,15 @@
-use mathlib.Core.Path.{refl}
+use borrow.Author.Tests.{eq-eqb, ne-eqb}
 use Rattle.dogwood_outline.specs.Brackets.{closing}
 use Rattle.dogwood_outline.proofs.brackets.closes.Statement.{statement}
 use Rattle.dogwood_outline.proofs.brackets.closes.Tie as tie
-use Rattle.dogwood_outline.proofs.brackets.closes.Reads as reads
-use Rattle.dogwood_outline.proofs.brackets.closes.Lts as lts
 
--- src/brackets.rt:13:1
 returns : tie.Need-returns
 unfolding closing
-returns c = refl
+returns c = simp (ne-eqb (c .before .args .kind) 5 (c .if1 .taken))
+
+returns-2 : tie.Need-returns-2
+unfolding closing
+returns-2 c = simp (eq-eqb (c .before .args .kind) 5 (c .if1 .left))
 
 pub closes-spec : {M : Type 1} → statement M
-closes-spec = tie.close (tie.spec returns)
+closes-spec = tie.close (tie.spec returns returns-2)

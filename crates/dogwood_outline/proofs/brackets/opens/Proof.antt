@@ -1,14 +1,15 @@
-use mathlib.Core.Path.{refl}
+use borrow.Author.Tests.{eq-eqb, ne-eqb}
 use Rattle.dogwood_outline.specs.Brackets.{opening}
 use Rattle.dogwood_outline.proofs.brackets.opens.Statement.{statement}
 use Rattle.dogwood_outline.proofs.brackets.opens.Tie as tie
-use Rattle.dogwood_outline.proofs.brackets.opens.Reads as reads
-use Rattle.dogwood_outline.proofs.brackets.opens.Lts as lts
 
--- src/brackets.rt:6:1
 returns : tie.Need-returns
 unfolding opening
-returns c = refl
+returns c = simp (ne-eqb (c .before .args .kind) 5 (c .if1 .taken))
+
+returns-2 : tie.Need-returns-2
+unfolding opening
+returns-2 c = simp (eq-eqb (c .before .args .kind) 5 (c .if1 .left))
 
 pub opens-spec : {M : Type 1} → statement M
-opens-spec = tie.close (tie.spec returns)
+opens-spec = tie.close (tie.spec returns returns-2)
