@@ -1,9 +1,9 @@
--- A table that tokenising filled holds the tokens of its text, and so does each part of it.
+-- A table that tokenising filled holds the tokens of its text.
 use mathlib.Core.Path.{_≡_, refl, sym, _∙_, ap, subst}
 use mathlib.Core.List.{List, [], _∷_, _++_, append-nil, append-assoc}
 use Prim.Native.Nat.{_≤_, ℕ, _+_, _-_, _*_}
 use native.Mathlib.Omega.{arith}
-use lib.ListN.{length, take, drop, length-append, length-take, length-drop}
+use lib.ListN.{length, take, length-append}
 use lib.Seq.{take-append-seam, drop-append-seam}
 use Rattle.dogwood_rules.specs.Utf8.{encode, byteLength, decode, AllScalar, scalars-more}
 use Rattle.dogwood_rules.specs.Token.{Token, Kind, Whitespace, Comment, String, Identifier, Number, Symbol, Other, kindNumber, tokenise, placed, wordsOf, spell}
@@ -15,7 +15,6 @@ use Rattle.dogwood_rules.proofs.Chains.{Chain, chain-end, chain-more, tokenise-
 use Rattle.dogwood_formatter.specs.declared.table.Entry.{Entry}
 use Rattle.dogwood_formatter.specs.View.{kindOf, bytesAt, tokenOf, tokens, Held, Holds, Ready}
 use Rattle.dogwood_formatter.proofs.Bytes.{encode-append, encode-longer}
-use Rattle.dogwood_formatter.proofs.Tables.{holds-drop, holds-take, tokens-drop, tokens-take}
 
 kind-of : (k : Kind) → kindOf (kindNumber k) ≡ k
 unfolding kindOf kindNumber
@@ -126,16 +125,3 @@ module _ (text cs : List ℕ) (d : decode text ≡ (cs, [])) (e : tokenise cs .1
       let v = length-append (spell (tokenise cs .0)) (tokenise cs .1) in
       let t = words-length 0 (tokenise cs .0) in
       record { small = h; short = omega arith; holds = table-holds }
-
-  -- n tokens of it from token i on
-  pub part-ready : length text ≤ 1048576 → (i n : ℕ) → Ready text (take (3 * n) (drop (3 * i) table))
-  part-ready h i n =
-      let r = table-ready h in
-      let s = r .short in
-      let a = length-take (3 * n) (drop (3 * i) table) in
-      let b = length-drop (3 * i) table in
-      record { small = h; short = omega arith; holds = holds-take text (drop (3 * i) table) n (holds-drop text table i table-holds) }
-
-  pub part-tokens : (i n : ℕ) → tokens text (take (3 * n) (drop (3 * i) table)) ≡ take n (drop i (tokenise cs .0))
-  part-tokens i n =
-      tokens-take text (drop (3 * i) table) n ∙ ap (take n) (tokens-drop text table i ∙ ap (drop i) table-tokens)

@@ -9,10 +9,6 @@ use borrow.Author.Tests.{eqb-true, eq-eqb}
 pub false-true : {A : Type 0} → _≡_ {A = Bool} false true → A
 false-true e = absurd (let y : _≡_ {A = ℕ} 0 1 = cc in omega arith)
 
-pub and-assoc : (a b c : Bool) → a && (b && c) ≡ a && b && c
-and-assoc true b c = refl
-and-assoc false b c = refl
-
 pub and-false : (a : Bool) → a && false ≡ false
 and-false true = refl
 and-false false = refl

@@ -10,8 +10,8 @@ use lib.ListN.{length, getD, drop}
 use lib.Seq.{drop-drop}
 use borrow.Author.Tests.{eqb-true, eqb-false, lt-ltb, le-ltb}
 use Rattle.dogwood_rules.specs.Basic.{if_then_else_, every, some?}
-use Rattle.dogwood_rules.specs.Token.{Token, Placed, kindNumber, tokens, wordsOf}
-use Rattle.dogwood_rules.specs.Tree.{blank, comment, opener, closer}
+use Rattle.dogwood_rules.specs.Token.{Token, Kind, Whitespace, Comment, String, Identifier, Number, Symbol, Other, Placed, kindNumber, tokens, wordsOf}
+use Rattle.dogwood_rules.specs.Tree.{blank, comment, isWhitespace, isComment, opener, closer}
 use Rattle.dogwood_rules.specs.Outline.{Span, Statement, statements, upTo, from, plain, balanced, kindOk, within, beyond}
 use Rattle.dogwood_rules.specs.Searches.{commentIn, orElse, firstComment, tooDeep}
 use Rattle.dogwood_outline.specs.Brackets.{opening, closing}
@@ -21,9 +21,28 @@ use Rattle.dogwood_outline.specs.Table.{skipIn, gapIn, partIn, commentBe
 use Rattle.dogwood_outline.proofs.Bools.{or-assoc, or-false}
 use Rattle.dogwood_outline.proofs.Spans.{from-on, from-off, upTo-on, upTo-off}
 use Rattle.dogwood_outline.proofs.SearchSteps.{deep-here, deep-open, deep-close, deep-plain}
-use Rattle.dogwood_outline.proofs.Took.{plain-kind, comment-kind}
 
 -- Kinds ------------------------------------------------------------------------------------------------------------------
+
+plain-kind : (k : Kind) → leb 2 (kindNumber k) ≡ not (isWhitespace k) && not (isComment k)
+unfolding kindNumber isWhitespace isComment
+plain-kind Whitespace = refl
+plain-kind Comment = refl
+plain-kind String = refl
+plain-kind Identifier = refl
+plain-kind Number = refl
+plain-kind Symbol = refl
+plain-kind Other = refl
+
+comment-kind : (k : Kind) → eqb (kindNumber k) 1 ≡ isComment k
+unfolding kindNumber isComment
+comment-kind Whitespace = refl
+comment-kind Comment = refl
+comment-kind String = refl
+comment-kind Identifier = refl
+comment-kind Number = refl
+comment-kind Symbol = refl
+comment-kind Other = refl
 
 plain-row : (t : Token) → leb 2 (kindNumber (t .kind)) ≡ plain t
 unfolding plain blank comment

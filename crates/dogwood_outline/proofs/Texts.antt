@@ -1,23 +1,19 @@
--- The tokens of any bytes stand one behind the other; so the pass over them is the rules' test of fit, and a walk that lands at a place is at the
--- tokens from there on.
+-- The tokens of any bytes stand one behind the other; so the pass over them is the rules' test of fit.
 use mathlib.Core.Path.{_≡_, refl, sym, _∙_, ap, subst}
-use mathlib.Core.Bool.{Bool, true, false}
 use mathlib.Core.List.{List, [], _∷_}
 use Prim.Native.Nat.{ℕ, _≤_}
 use native.Mathlib.Omega.{arith}
-use lib.Dec.{ltb, eqb}
 use lib.ListN.{length}
-use borrow.Author.Tests.{eqb-true}
 use Rattle.dogwood_rules.specs.Token.{Placed, Tiled, tiled-end, tiled-more}
-use Rattle.dogwood_rules.specs.Outline.{from, fits}
+use Rattle.dogwood_rules.specs.Outline.{fits}
 use Rattle.dogwood_syntax.specs.declared.cursor.Step.{Step}
 use Rattle.dogwood_syntax.specs.Cursor.{tokensAt, Walk, walk-end, walk-open, walk-more}
 use Rattle.dogwood_syntax.proofs.Walks.{walks-all}
 use Rattle.dogwood_syntax.proofs.Steps.{next-onward}
-use Rattle.dogwood_outline.specs.Pass.{placedIn, here, stands, passes}
-use Rattle.dogwood_outline.proofs.Spans.{Below, from-on, from-off}
+use Rattle.dogwood_outline.specs.Pass.{placedIn, passes}
+use Rattle.dogwood_outline.proofs.Spans.{Below}
 use Rattle.dogwood_outline.proofs.OnePass.{tiled-below, passes-fits}
-use Rattle.dogwood_outline.proofs.Took.{took, Pace, pace-on, pace-off, pace}
+use Rattle.dogwood_outline.proofs.Took.{took}
 
 -- up to some place of the text
 record Tiles (s : List ℕ) (at : ℕ) (ps : List Placed) : Type 0 where
@@ -54,35 +50,3 @@ fit-law s words = let t = text-tiles s in passes-fits (length s) (t .stop) (t .w
 pub tokens-start : (s : List ℕ) → tokensAt s 0 ≡ placedIn s
 unfolding tokensAt placedIn
 tokens-start s = refl
-
--- Landing -----------------------------------------------------------------------------------------------------------------
-
-module _ (s : List ℕ) where
-  -- at the text's end no token is left
-  at-end : tokensAt s (length s) ≡ []
-  at-end = by (pace s (length s))
-    where
-      by : Pace s (length s) → tokensAt s (length s) ≡ []
-      by (pace-on k) = absurd (omega (arith, k .onward, k .inside))
-      by (pace-off e) = e
-
-  arrives : (n i : ℕ) (ps : List Placed) → tokensAt s i ≡ ps → stands (length s) n ps ≡ true → from n ps ≡ tokensAt s n
-  unfolding from
-  arrives n i [] w e = sym at-end ∙ ap (tokensAt s) (eqb-true (length s) n e)
-  arrives n i (p ∷ ps) w e = by (λ i w h. arrives n i ps w h) (pace s i) (ltb (p .start) n) refl
-    where
-      by : ((i : ℕ) → tokensAt s i ≡ ps → stands (length s) n ps ≡ true → from n ps ≡ tokensAt s n) → Pace s i → (b : Bool) → ltb (p .start) n ≡ b → from n (p ∷ ps) ≡ tokensAt s n
-      by ih (pace-off h) b k = let z : _≡_ {A = List Placed} [] (p ∷ ps) = sym h ∙ w in absurd (let y : _≡_ {A = ℕ} 0 1 = cc in omega arith)
-      by ih (pace-on {c} t) true k =
-          let z : t .first ∷ tokensAt s (c .at) ≡ p ∷ ps = sym (t .tokens) ∙ w in
-          let r : tokensAt s (c .at) ≡ ps = cc in
-          from-on n p ps k ∙ ih (c .at) r (sym (ap (λ (qs : List Placed). eqb (here (length s) qs) n) (from-on n p ps k)) ∙ e)
-      by ih (pace-on {c} t) false k =
-          let z : t .first ∷ tokensAt s (c .at) ≡ p ∷ ps = sym (t .tokens) ∙ w in
-          let r : t .first ≡ p = cc in
-          let q : eqb (p .start) n ≡ true = sym (ap (λ (qs : List Placed). eqb (here (length s) qs) n) (from-off n p ps k)) ∙ e in
-          let m : i ≡ n = sym (t .starts) ∙ ap (λ (v : Placed). v .start) r ∙ eqb-true (p .start) n q in
-          from-off n p ps k ∙ sym w ∙ ap (tokensAt s) m
-
-  pub stands-arrives : (n i : ℕ) → stands (length s) n (tokensAt s i) ≡ true → from n (tokensAt s i) ≡ tokensAt s n
-  stands-arrives n i e = arrives n i (tokensAt s i) refl e

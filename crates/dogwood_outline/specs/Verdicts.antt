@@ -54,9 +54,6 @@ pub record Judges (text outline : List ℕ) (number place : ℕ) : Type 0 where
   pub numbered : number ≡ judged (length text) (placedIn text) outline .0
   pub located : place ≡ judged (length text) (placedIn text) outline .1
 
-pub judges-only : (text outline : List ℕ) (n m p q : ℕ) → Judges text outline n p → Judges text outline m q → (n ≡ m) × (p ≡ q)
-judges-only text outline n m p q a b = (cc, cc)
-
 -- the verdict again
 abbrev pub verdictOf : ℕ → ℕ → Verdict
 verdictOf n p =
