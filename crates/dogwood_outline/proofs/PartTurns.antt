@@ -14,15 +14,14 @@ use Rattle.dogwood_outline.specs.declared.walks.Walked.the-variants.{Sou
 use Rattle.dogwood_outline.specs.Records.{spansAt}
 use Rattle.dogwood_outline.specs.Search.{foundOf, absent}
 use Rattle.dogwood_outline.specs.Table.{gapIn, partIn, partsIn, walkedOf}
+use Rattle.dogwood_outline.proofs.TableSearch.{found-none as found-nothing, found-some}
 use Rattle.dogwood_outline.proofs.Bools.{and-false}
 
 pub found-at : (o : Option ℕ) {j : ℕ} → foundOf o ≡ At j → o ≡ some j
-found-at none e = absurd (let z : _≡_ {A = ℕ} 0 1 = cc in omega arith)
-found-at (some n) {j} e = let z : n ≡ j = cc in ap some z
+found-at o e = found-some o (sym e)
 
 pub found-none : (o : Option ℕ) → foundOf o ≡ Nothing → o ≡ none
-found-none none e = refl
-found-none (some n) e = absurd (let z : _≡_ {A = ℕ} 0 1 = cc in omega arith)
+found-none o e = found-nothing o (sym e)
 
 sound-some : (o : Option (Bool × ℕ)) {m : Bool} {j : ℕ} → walkedOf o ≡ Sound m j → o ≡ some (m, j)
 sound-some none e = absurd (let z : _≡_ {A = ℕ} 0 1 = cc in omega arith)
