@@ -12,16 +12,13 @@ use Rattle.dogwood_rules.specs.Basic.{if_then_else_}
 use Rattle.dogwood_outline.specs.declared.rows.Row.the-variants.{Token, Ended}
 use Rattle.dogwood_outline.specs.Brackets.{opening, closing}
 use Rattle.dogwood_outline.specs.Table.{rowOf, gapIn, partIn}
-use Rattle.dogwood_outline.proofs.RowSteps.{Stands, row-ended}
+use Rattle.dogwood_outline.proofs.RowSteps.{few, Stands, row-ended}
 
 -- A gap ---------------------------------------------------------------------------------------------------------------
 
 gap-few : (end n i : ℕ) (ws : List ℕ) → length ws < 3 → gapIn end n i ws ≡ if eqb end n then some i else none
 unfolding gapIn
-gap-few end n i [] h = refl
-gap-few end n i (k ∷ []) h = refl
-gap-few end n i (k ∷ s ∷ []) h = refl
-gap-few end n i (k ∷ s ∷ e ∷ ws) h = absurd (omega arith)
+gap-few end n i = few (λ (ws : List ℕ). gapIn end n i ws ≡ (if eqb end n then some i else none)) refl (λ k. refl) (λ k s. refl)
 
 module _ (ws : List ℕ) (end n i : ℕ) where
   pub gap-ends : rowOf (drop i ws) ≡ Ended → end ≡ n → gapIn end n i (drop i ws) ≡ some i
@@ -52,10 +49,7 @@ module _ (ws : List ℕ) (end n i : ℕ) where
 part-few : (text : List ℕ) (n d : ℕ) (w : Bool) (i : ℕ) (ws : List ℕ) → length ws < 3
     → partIn text n d w i ws ≡ if eqb d 0 && eqb (length text) n then some (w, i) else none
 unfolding partIn
-part-few text n d w i [] h = refl
-part-few text n d w i (k ∷ []) h = refl
-part-few text n d w i (k ∷ s ∷ []) h = refl
-part-few text n d w i (k ∷ s ∷ e ∷ ws) h = absurd (omega arith)
+part-few text n d w i = few (λ (ws : List ℕ). partIn text n d w i ws ≡ (if eqb d 0 && eqb (length text) n then some (w, i) else none)) refl (λ k. refl) (λ k s. refl)
 
 module _ (text ws : List ℕ) (n d : ℕ) (w : Bool) (i : ℕ) where
   pub part-done : (b : Bool) → rowOf (drop i ws) ≡ Ended → eqb d 0 && eqb (length text) n ≡ b

@@ -17,7 +17,7 @@ use Rattle.dogwood_outline.proofs.TableSearch.{found-none, found-some}
 
 module _ (text table ws : List ℕ) where
   abbrev found : Option ℕ
-  found = firstCommentIn text table (statements ws .0) 0
+  found = firstCommentIn table (statements ws .0) 0
 
   abbrev nothing : Bool
   nothing = eqb (length ws) 0 && absent (commentBefore (length text) table)

@@ -59,7 +59,7 @@ module _ (s ws : List ℕ) where
   unfolding fitsIn passes
   fits-table = ap (λ (b : Bool). eqb (length (statements ws .1)) 0 && b) (statements-words s table (statements ws .0) 0 bracketed refl) ∙ fit-law s ws
 
-  first-table : firstCommentIn s table (statements ws .0) 0 ≡ firstComment (statements ws .0) (placedIn s)
+  first-table : firstCommentIn table (statements ws .0) 0 ≡ firstComment (statements ws .0) (placedIn s)
   first-table = first-comment-words s table (statements ws .0) 0 (placedIn s) refl
 
   any-table : commentBefore (length s) table ≡ commentIn (placedIn s)

@@ -14,11 +14,15 @@ use Rattle.dogwood_outline.specs.declared.rows.Row.{Row}
 use Rattle.dogwood_outline.specs.declared.rows.Row.the-variants.{Token, Ended}
 use Rattle.dogwood_outline.specs.Table.{rowOf, skipIn}
 
+-- what holds of each list that is no whole row
+pub few : (P : List ℕ → Type 0) → P [] → ((k : ℕ) → P (k ∷ [])) → ((k s : ℕ) → P (k ∷ s ∷ [])) → (ws : List ℕ) → length ws < 3 → P ws
+few P a b c [] h = a
+few P a b c (k ∷ []) h = b k
+few P a b c (k ∷ s ∷ []) h = c k s
+few P a b c (k ∷ s ∷ e ∷ ws) h = absurd (omega arith)
+
 row-few : (ws : List ℕ) → length ws < 3 → rowOf ws ≡ Ended
-row-few [] h = refl
-row-few (k ∷ []) h = refl
-row-few (k ∷ s ∷ []) h = refl
-row-few (k ∷ s ∷ e ∷ ws) h = absurd (omega arith)
+row-few = few (λ (ws : List ℕ). rowOf ws ≡ Ended) refl (λ k. refl) (λ k s. refl)
 
 abbrev kindIn : Row → ℕ
 kindIn (Token k s) = k
@@ -88,16 +92,10 @@ module _ (ws : List ℕ) (i : ℕ) where
 
 -- The tokens before a place ----------------------------------------------------------------------------------------------
 
-skip-few : (n i : ℕ) (ws : List ℕ) → length ws < 3 → skipIn n i ws ≡ i
-unfolding skipIn
-skip-few n i [] h = refl
-skip-few n i (k ∷ []) h = refl
-skip-few n i (k ∷ s ∷ []) h = refl
-skip-few n i (k ∷ s ∷ e ∷ ws) h = absurd (omega arith)
-
 module _ (ws : List ℕ) (n i : ℕ) where
   pub skip-done : rowOf (drop i ws) ≡ Ended → skipIn n i (drop i ws) ≡ i
-  skip-done e = skip-few n i (drop i ws) (row-ended ws i e)
+  unfolding skipIn
+  skip-done e = few (λ (l : List ℕ). skipIn n i l ≡ i) refl (λ k. refl) (λ k s. refl) (drop i ws) (row-ended ws i e)
 
   module _ {k s : ℕ} (r : Stands ws i k s) where
     pub skip-stop : n ≤ s → skipIn n i (drop i ws) ≡ i

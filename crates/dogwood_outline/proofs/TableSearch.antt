@@ -17,21 +17,15 @@ use Rattle.dogwood_outline.specs.Brackets.{opening, closing}
 use Rattle.dogwood_outline.specs.Records.{statementAt, recordAt}
 use Rattle.dogwood_outline.specs.Search.{foundOf, absent}
 use Rattle.dogwood_outline.specs.Table.{rowOf, skipIn, commentBefore, deepIn, firstCommentIn}
-use Rattle.dogwood_outline.proofs.RowSteps.{Stands, row-ended}
+use Rattle.dogwood_outline.proofs.RowSteps.{few, Stands, row-ended}
 use Rattle.dogwood_outline.proofs.Words.{records-end, records-stop, records-more, said, unsaid}
 
 -- A comment ------------------------------------------------------------------------------------------------------------
 
-comment-few : (n : ℕ) (ws : List ℕ) → length ws < 3 → commentBefore n ws ≡ none
-unfolding commentBefore
-comment-few n [] h = refl
-comment-few n (k ∷ []) h = refl
-comment-few n (k ∷ s ∷ []) h = refl
-comment-few n (k ∷ s ∷ e ∷ ws) h = absurd (omega arith)
-
 module _ (ws : List ℕ) (n i : ℕ) where
   pub comment-done : rowOf (drop i ws) ≡ Ended → commentBefore n (drop i ws) ≡ none
-  comment-done e = comment-few n (drop i ws) (row-ended ws i e)
+  unfolding commentBefore
+  comment-done e = few (λ (l : List ℕ). commentBefore n l ≡ none) refl (λ k. refl) (λ k s. refl) (drop i ws) (row-ended ws i e)
 
   module _ {k s : ℕ} (r : Stands ws i k s) where
     pub comment-stop : n ≤ s → commentBefore n (drop i ws) ≡ none
@@ -48,16 +42,10 @@ module _ (ws : List ℕ) (n i : ℕ) where
 
 -- A deep opener --------------------------------------------------------------------------------------------------------
 
-deep-few : (text : List ℕ) (d : ℕ) (ws : List ℕ) → length ws < 3 → deepIn text d ws ≡ none
-unfolding deepIn
-deep-few text d [] h = refl
-deep-few text d (k ∷ []) h = refl
-deep-few text d (k ∷ s ∷ []) h = refl
-deep-few text d (k ∷ s ∷ e ∷ ws) h = absurd (omega arith)
-
 module _ (text ws : List ℕ) (d i : ℕ) where
   pub deep-done : rowOf (drop i ws) ≡ Ended → deepIn text d (drop i ws) ≡ none
-  deep-done e = deep-few text d (drop i ws) (row-ended ws i e)
+  unfolding deepIn
+  deep-done e = few (λ (l : List ℕ). deepIn text d l ≡ none) refl (λ k. refl) (λ k s. refl) (drop i ws) (row-ended ws i e)
 
   module _ {k s : ℕ} (r : Stands ws i k s) where
     pub deep-here : opening k (getD text s 0) ≡ true → d ≡ 64 → deepIn text d (drop i ws) ≡ some s
@@ -105,45 +93,45 @@ found-absent o e = ap absent (found-none o e)
 pub found-present : (o : Option ℕ) {n : ℕ} → At n ≡ foundOf o → absent o ≡ false
 found-present o e = ap absent (found-some o e)
 
-module _ (text table ws : List ℕ) (at i : ℕ) where
+module _ (table ws : List ℕ) (at i : ℕ) where
   abbrev pub commentsLeft : Option ℕ
-  commentsLeft = firstCommentIn text table (statements (drop i ws) .0) at
+  commentsLeft = firstCommentIn table (statements (drop i ws) .0) at
 
   pub comments-end : length ws ≤ i → commentsLeft ≡ none
   unfolding firstCommentIn
-  comments-end h = ap (λ (r : List Statement × List ℕ). firstCommentIn text table (r .0) at) (records-end ws i h)
+  comments-end h = ap (λ (r : List Statement × List ℕ). firstCommentIn table (r .0) at) (records-end ws i h)
 
   module _ (h : i < length ws) where
     comments-short : statement (drop i ws) ≡ none → commentsLeft ≡ none
     unfolding firstCommentIn
-    comments-short e = ap (λ (r : List Statement × List ℕ). firstCommentIn text table (r .0) at) (records-stop ws i h e)
+    comments-short e = ap (λ (r : List Statement × List ℕ). firstCommentIn table (r .0) at) (records-stop ws i h e)
 
 -- what a record leaves that ends at b, where its tokens begin at word j and the next record at word next
-module _ (text table ws : List ℕ) where
+module _ (table ws : List ℕ) where
   abbrev pub commentsFrom : ℕ → ℕ → ℕ → Option ℕ
-  commentsFrom j b next = orElse (commentBefore b (drop j table)) (firstCommentIn text table (statements (drop next ws) .0) (skipIn b j (drop j table)))
+  commentsFrom j b next = orElse (commentBefore b (drop j table)) (firstCommentIn table (statements (drop next ws) .0) (skipIn b j (drop j table)))
 
-module _ (text table ws : List ℕ) (at i : ℕ) (h : i < length ws) where
+module _ (table ws : List ℕ) (at i : ℕ) (h : i < length ws) where
   comments-step : statement (drop i ws) ≡ some (statementAt ws i, 3 + 2 * getD ws (i + 3) 0)
-      → commentsLeft text table ws at i
-      ≡ commentsFrom text table ws (skipIn (getD ws (i + 1) 0) at (drop at table)) (getD ws (i + 2) 0) (i + 4 + 2 * getD ws (i + 3) 0)
+      → commentsLeft table ws at i
+      ≡ commentsFrom table ws (skipIn (getD ws (i + 1) 0) at (drop at table)) (getD ws (i + 2) 0) (i + 4 + 2 * getD ws (i + 3) 0)
   unfolding firstCommentIn statementAt
-  comments-step e = ap (λ (r : List Statement × List ℕ). firstCommentIn text table (r .0) at) (records-more ws i h (statementAt ws i) (getD ws (i + 3) 0) e)
+  comments-step e = ap (λ (r : List Statement × List ℕ). firstCommentIn table (r .0) at) (records-more ws i h (statementAt ws i) (getD ws (i + 3) 0) e)
 
-  pub comments-none : recordAt ws i ≡ Short → commentsLeft text table ws at i ≡ none
-  comments-none e = comments-short text table ws at i h (unsaid ws i e)
+  pub comments-none : recordAt ws i ≡ Short → commentsLeft table ws at i ≡ none
+  comments-none e = comments-short table ws at i h (unsaid ws i e)
 
   module _ {r : Record} (q : recordAt ws i ≡ Whole r) {j : ℕ} (k : j ≡ skipIn (r .start) at (drop at table)) where
-    step : commentsLeft text table ws at i ≡ commentsFrom text table ws j (r .end) (r .next)
+    step : commentsLeft table ws at i ≡ commentsFrom table ws j (r .end) (r .next)
     step =
         comments-step (said ws i q .stated)
-        ∙ ap (λ (x : Record). commentsFrom text table ws (skipIn (x .start) at (drop at table)) (x .end) (x .next)) (sym (said ws i q .is))
-        ∙ ap (λ (m : ℕ). commentsFrom text table ws m (r .end) (r .next)) (sym k)
+        ∙ ap (λ (x : Record). commentsFrom table ws (skipIn (x .start) at (drop at table)) (x .end) (x .next)) (sym (said ws i q .is))
+        ∙ ap (λ (m : ℕ). commentsFrom table ws m (r .end) (r .next)) (sym k)
 
-    pub comments-here : {n : ℕ} → At n ≡ foundOf (commentBefore (r .end) (drop j table)) → commentsLeft text table ws at i ≡ some n
+    pub comments-here : {n : ℕ} → At n ≡ foundOf (commentBefore (r .end) (drop j table)) → commentsLeft table ws at i ≡ some n
     unfolding orElse
     comments-here e = step ∙ rw (found-some (commentBefore (r .end) (drop j table)) e) refl
 
-    pub comments-on : {m : ℕ} → Nothing ≡ foundOf (commentBefore (r .end) (drop j table)) → m ≡ skipIn (r .end) j (drop j table) → commentsLeft text table ws at i ≡ commentsLeft text table ws m (r .next)
+    pub comments-on : {m : ℕ} → Nothing ≡ foundOf (commentBefore (r .end) (drop j table)) → m ≡ skipIn (r .end) j (drop j table) → commentsLeft table ws at i ≡ commentsLeft table ws m (r .next)
     unfolding orElse
-    comments-on e l = step ∙ rw (found-none (commentBefore (r .end) (drop j table)) e) (ap (firstCommentIn text table (statements (drop (r .next) ws) .0)) (sym l))
+    comments-on e l = step ∙ rw (found-none (commentBefore (r .end) (drop j table)) e) (ap (firstCommentIn table (statements (drop (r .next) ws) .0)) (sym l))

@@ -160,16 +160,13 @@ module _ (text : List ℕ) (n d : ℕ) (seen : Bool) (i : ℕ) where
       (seen || (w || some? plain (tokens us)))
       (i + 3 * suc (length us))
 
-  same-end : sound (eqb d 0 && eqb (length text) n) seen i ≡ sound (eqb d 0 && eqb (length text) n) (seen || false) (i + 3 * 0)
-  same-end j = sound (eqb d 0 && eqb (length text) n) (sym (or-false seen) j) ((let q : i ≡ i + 3 * 0 = omega arith in q) j)
-
   same-stop : (s : ℕ) → sound (eqb d 0 && eqb s n) seen i ≡ sound (eqb d 0 && eqb s n) (seen || false) (i + 3 * 0)
   same-stop s j = sound (eqb d 0 && eqb s n) (sym (or-false seen) j) ((let q : i ≡ i + 3 * 0 = omega arith in q) j)
 
 part-words : (text : List ℕ) (n d : ℕ) (seen : Bool) (i : ℕ) {ps : List Placed} → Bracketed text ps
     → partIn text n d seen i (wordsOf ps) ≡ sound (part (length text) d n ps) (seen || spoken n ps) (i + before n ps)
 unfolding partIn wordsOf part spoken upTo from tokens balanced
-part-words text n d seen i bracketed-end = same-end text n d seen i
+part-words text n d seen i bracketed-end = same-stop text n d seen i (length text)
 part-words text n d seen i (bracketed-more {p} {ps} o c h) =
     by (λ (d : ℕ) (seen : Bool) (i : ℕ). part-words text n d seen i h) (ltb (p .start) n) refl (opener (p .token)) refl (closer (p .token)) refl (eqb d 0) refl
   where
@@ -316,7 +313,7 @@ module _ (text table : List ℕ) where
           ∙ (λ k. parts-words (s .parts) (s .span .stop) false (i + before (s .span .start) ps) (bracketed-from text (s .span .start) h) at k && ih (skipIn (s .span .stop) (i + before (s .span .start) ps) (drop (i + before (s .span .start) ps) table)) (skip-at (s .span .stop) (i + before (s .span .start) ps) (from (s .span .start) ps) at) k)
           ∙ sym (rw e (rw f refl))
 
-  pub first-comment-words : (ss : List Statement) (i : ℕ) (ps : List Placed) → drop i table ≡ wordsOf ps → firstCommentIn text table ss i ≡ firstComment ss ps
+  pub first-comment-words : (ss : List Statement) (i : ℕ) (ps : List Placed) → drop i table ≡ wordsOf ps → firstCommentIn table ss i ≡ firstComment ss ps
   unfolding firstCommentIn firstComment within beyond
   first-comment-words [] i ps w = refl
   first-comment-words (s ∷ ss) i ps w =

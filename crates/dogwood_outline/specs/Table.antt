@@ -73,6 +73,13 @@ deepIn text d (k ∷ s ∷ e ∷ ws) =
     else if closing k (getD text s 0) then deepIn text (d - 1) ws
     else deepIn text d ws
 
+-- the first comment inside a statement, from word i on
+unfoldable pub firstCommentIn : List ℕ → List Statement → ℕ → Option ℕ
+firstCommentIn table [] i = none
+firstCommentIn table (s ∷ ss) i =
+    let j = skipIn (s .span .start) i (drop i table) in
+    orElse (commentBefore (s .span .stop) (drop j table)) (firstCommentIn table ss (skipIn (s .span .stop) j (drop j table)))
+
 module _ (text table : List ℕ) where
   -- parts, then the end b of their statement, from word i on
   unfoldable pub partsIn : List Span → ℕ → Bool → ℕ → Bool
@@ -97,18 +104,11 @@ module _ (text table : List ℕ) where
   unfoldable pub fitsIn : List ℕ → Bool
   fitsIn words = eqb (length (statements words .1)) 0 && statementsIn (statements words .0) 0
 
-  -- the first comment inside a statement, from word i on
-  unfoldable pub firstCommentIn : List Statement → ℕ → Option ℕ
-  firstCommentIn [] i = none
-  firstCommentIn (s ∷ ss) i =
-      let j = skipIn (s .span .start) i (drop i table) in
-      orElse (commentBefore (s .span .stop) (drop j table)) (firstCommentIn ss (skipIn (s .span .stop) j (drop j table)))
-
   -- numbers 4, 2, 3 and 5 in this order, else 0, with the place
   unfoldable pub judgedIn : List ℕ → ℕ × ℕ
   judgedIn words =
       if fitsIn words
-      then elim (firstCommentIn (statements words .0) 0) [
+      then elim (firstCommentIn table (statements words .0) 0) [
         | some n ↦ (2, n)
         | none ↦ if eqb (length words) 0 && absent (commentBefore (length text) table) then (3, 0) else nested (deepIn text 0 table)
       ]

@@ -28,7 +28,7 @@ pub fn judge(text: &[u8], table: &[u32], outline: &[u32]) -> Verdict
     if !fit(text, table, outline) {
         return Verdict::Misfit;
     }
-    match first_comment(text, table, outline) {
+    match first_comment(table, outline) {
         Found::At(place) => {
             return Verdict::Remarked(place);
         }

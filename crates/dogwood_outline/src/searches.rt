@@ -38,8 +38,8 @@ fn comment_before(table: &[u32], from: usize, n: usize) -> Found
 }
 
 // The first comment inside a statement.
-pub(crate) fn first_comment(text: &[u8], table: &[u32], outline: &[u32]) -> Found
-    ensures { λ r. ⌜ r ≡ foundOf (firstCommentIn (now (text .entry)) (now (table .entry)) (statements (now (outline .entry)) .0) 0) ⌝ }
+pub(crate) fn first_comment(table: &[u32], outline: &[u32]) -> Found
+    ensures { λ r. ⌜ r ≡ foundOf (firstCommentIn (now (table .entry)) (statements (now (outline .entry)) .0) 0) ⌝ }
 {
     let mut at: usize = 0;
     let mut i: usize = 0;
