@@ -1,3 +1,5 @@
+use mathlib.Core.Bool.{_&&_}
+use lib.Dec.{eqb}
 use borrow.Author.Needs.{needs}
 use Rattle.dogwood_rules.specs.Tree.{comma}
 use Rattle.dogwood_formatter.specs.Scan.{cutAfterToken}
@@ -9,7 +11,7 @@ is-byte-requires c κs = search needs
 
 returns : tie.Need-returns
 unfolding cutAfterToken comma
-returns c = cc
+returns c = λ i. eqb (c .before .before .args .set) 0 && eqb (c .before .before .args .depth) 0 && c .is-byte .ensures i
 
 pub cuts-after-spec : {M : Type 1} → statement M
 cuts-after-spec = tie.close (tie.spec is-byte-requires returns)

@@ -1,3 +1,5 @@
+use mathlib.Core.Bool.{_&&_, _||_}
+use lib.Dec.{eqb}
 use borrow.Author.Needs.{needs}
 use Rattle.dogwood_rules.specs.Tree.{andOr}
 use Rattle.dogwood_formatter.specs.Scan.{cutBefore}
@@ -12,7 +14,7 @@ is-pair-requires-2 c κs = search needs
 
 returns : tie.Need-returns
 unfolding cutBefore andOr
-returns c = cc
+returns c = λ i. eqb (c .before .before .before .args .set) 1 && eqb (c .before .before .before .args .depth) 0 && (c .before .is-pair .ensures i || c .is-pair2 .ensures i)
 
 pub cuts-before-spec : {M : Type 1} → statement M
 cuts-before-spec = tie.close (tie.spec is-pair-requires is-pair-requires-2 returns)
