@@ -17,8 +17,8 @@ use Rattle.dogwood_rules.proofs.Files.{AllSane}
 use Rattle.dogwood_rules.proofs.Fitting.{fits-says}
 use Rattle.dogwood_rules.proofs.Number3.{tokens-placed}
 use Rattle.dogwood_rules.proofs.Pieces.{pieces-say}
-use Rattle.dogwood_formatter.specs.View.{tokens, tokenOf}
-use Rattle.dogwood_formatter.specs.Places.{entries}
+use Rattle.dogwood_layout.specs.View.{tokens, tokenOf}
+use Rattle.dogwood_layout.specs.Places.{entries}
 use Rattle.dogwood_formatter.proofs.Tokenised.{table-tokens}
 
 -- a table that has the tokens of its places has the places too

@@ -23,10 +23,10 @@ use Rattle.utf8.proofs.Mark.{length-text}
 use Rattle.dogwood_outline.specs.Pass.{placedIn}
 use Rattle.dogwood_outline.specs.Verdicts.{Judges}
 use Rattle.dogwood_outline.proofs.Answers.{written, fine-says}
-use Rattle.dogwood_formatter.specs.declared.lay.Page.{Page}
-use Rattle.dogwood_formatter.specs.View.{Ready}
-use Rattle.dogwood_formatter.specs.Pieces.{settings, Bounded}
-use Rattle.dogwood_formatter.specs.Places.{entries}
+use Rattle.dogwood_layout.specs.declared.Page.{Page}
+use Rattle.dogwood_layout.specs.View.{Ready}
+use Rattle.dogwood_layout.specs.Pieces.{settings, Bounded}
+use Rattle.dogwood_layout.specs.Places.{entries}
 use Rattle.dogwood_formatter.specs.Offers.{Offered}
 use Rattle.dogwood_formatter.proofs.Tokenised.{table-ready}
 use Rattle.dogwood_formatter.proofs.Accepted.{table-entries, outline-exact, outline-sane}

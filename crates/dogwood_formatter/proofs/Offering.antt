@@ -18,13 +18,13 @@ use Rattle.dogwood_rules.specs.Contracts.{over}
 use Rattle.dogwood_rules.proofs.Below.{and-true}
 use Rattle.dogwood_rules.proofs.Files.{AllSane}
 use Rattle.utf8.proofs.Mark.{mark-inside, text-of}
-use Rattle.dogwood_formatter.specs.declared.lay.Page.{Page}
-use Rattle.dogwood_formatter.specs.View.{Ready}
-use Rattle.dogwood_formatter.specs.Pieces.{settings, Bounded}
-use Rattle.dogwood_formatter.specs.Places.{entries}
-use Rattle.dogwood_formatter.specs.Feeds.{LaidFile}
+use Rattle.dogwood_layout.specs.declared.Page.{Page}
+use Rattle.dogwood_layout.specs.View.{Ready}
+use Rattle.dogwood_layout.specs.Pieces.{settings, Bounded}
+use Rattle.dogwood_layout.specs.Places.{entries}
+use Rattle.dogwood_layout.specs.Feeds.{LaidFile}
 use Rattle.dogwood_formatter.specs.Offers.{Offered}
-use Rattle.dogwood_formatter.proofs.Totals.{file-bound}
+use Rattle.dogwood_layout.proofs.Totals.{file-bound}
 
 -- there is room
 pub offered-all : (bytes old : List ℕ) {r : ℕ} {new : List ℕ} → r ≡ length bytes → length bytes ≤ length old → new ≡ writtenOver old bytes → Offered bytes old r new

@@ -12,9 +12,9 @@ use Rattle.dogwood_rules.proofs.Scalars.{scalars-front}
 use Rattle.dogwood_rules.proofs.Decoding.{decode-sound}
 use Rattle.dogwood_rules.proofs.Wholes.{encode-length}
 use Rattle.dogwood_rules.proofs.Chains.{Chain, chain-end, chain-more, tokenise-made}
-use Rattle.dogwood_formatter.specs.declared.table.Entry.{Entry}
-use Rattle.dogwood_formatter.specs.View.{kindOf, bytesAt, tokenOf, tokens, Held, Holds, Ready}
-use Rattle.dogwood_formatter.proofs.Bytes.{encode-append, encode-longer}
+use Rattle.dogwood_layout.specs.declared.Entry.{Entry}
+use Rattle.dogwood_layout.specs.View.{kindOf, bytesAt, tokenOf, tokens, Held, Holds, Ready}
+use Rattle.dogwood_layout.proofs.Bytes.{encode-append, encode-longer}
 
 kind-of : (k : Kind) → kindOf (kindNumber k) ≡ k
 unfolding kindOf kindNumber

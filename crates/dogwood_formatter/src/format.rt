@@ -1,7 +1,7 @@
 // The whole call: a source formatted by its outline.
-use crate::lay::Page;
 use crate::offer::offer;
 use crate::offer::offer_file;
+use dogwood_layout::Page;
 use dogwood_outline::Verdict;
 use dogwood_outline::judge;
 use dogwood_syntax::Tokenized;

@@ -1,6 +1,6 @@
 // Bytes that are written whole where there is room for them, and else not at all.
-use crate::file::top_level_items;
-use crate::lay::Page;
+use dogwood_statements::top_level_items;
+use dogwood_layout::Page;
 use pen::put_all;
 use utf8::split_bom;
 ghost use mathlib.Core.Path.{_≡_};
@@ -10,9 +10,9 @@ ghost use Rattle.dogwood_rules.specs.Utf8.{encode, markOf, textOf};
 ghost use Rattle.dogwood_rules.specs.Outline.{statements};
 ghost use Rattle.dogwood_rules.specs.File.{pieces, joinPieces};
 ghost use Rattle.dogwood_rules.proofs.Files.{AllSane};
-ghost use Rattle.dogwood_formatter.specs.View.{Ready};
-ghost use Rattle.dogwood_formatter.specs.Pieces.{settings, Bounded};
-ghost use Rattle.dogwood_formatter.specs.Places.{entries};
+ghost use Rattle.dogwood_layout.specs.View.{Ready};
+ghost use Rattle.dogwood_layout.specs.Pieces.{settings, Bounded};
+ghost use Rattle.dogwood_layout.specs.Places.{entries};
 ghost use Rattle.dogwood_formatter.specs.Offers.{Offered};
 
 // Writes some bytes if there is room for them, and answers how many they are.

@@ -1,0 +1,9 @@
+pub mod Shape
+pub mod View
+pub mod Scan
+pub mod Measure
+pub mod Choice
+pub mod Ends
+pub mod Pieces
+pub mod Places
+pub mod Feeds
