@@ -2,8 +2,8 @@
 use crate::feeds::Written;
 use crate::feeds::put_feeds;
 use dogwood_layout::Entry;
+use dogwood_letters::is_space;
 use dogwood_runs::entry_at;
-use dogwood_syntax::is_space;
 use pen::add;
 use pen::clip;
 use pen::put_all;

@@ -17,15 +17,16 @@ use Rattle.utf8.specs.declared.Found.the-variants.{At, Nothing}
 use Rattle.utf8.proofs.Cases.{tested, and-true}
 use Rattle.utf8.proofs.Walk.{from-ind, stop≢go}
 use Rattle.utf8.proofs.Inside.{inside}
-use Rattle.dogwood_syntax.specs.declared.runs.Class.{Class}
-use Rattle.dogwood_syntax.specs.declared.runs.Class.the-variants.{Space, Word, Digit, Line, Other}
+use Rattle.dogwood_letters.specs.declared.runs.Class.{Class}
+use Rattle.dogwood_letters.specs.declared.runs.Class.the-variants.{Space, Word, Digit, Line, Other}
 use Rattle.dogwood_syntax.specs.declared.token.Lexeme.the-variants.{Token}
 use Rattle.dogwood_rules.specs.Token.{white, letter, digit, wordly, single, double, lineEnd, other}
-use Rattle.dogwood_syntax.specs.Class.{inClass}
-use Rattle.dogwood_syntax.specs.Run.{pastOne, runStep, runEnd, escaped, quoted, stringStep, stringEnd}
-use Rattle.dogwood_syntax.specs.Token.{symbolLen, stringTo, begins, lexeme, tokenAt}
-use Rattle.dogwood_syntax.proofs.Run.{run-onward, run-on, string-onward}
-use Rattle.dogwood_syntax.proofs.SymbolLaws.{double-zero}
+use Rattle.dogwood_letters.specs.Class.{inClass}
+use Rattle.dogwood_letters.specs.Run.{pastOne, runStep, runEnd, escaped, quoted, stringStep, stringEnd}
+use Rattle.dogwood_letters.specs.Symbol.{symbolLen}
+use Rattle.dogwood_syntax.specs.Token.{stringTo, begins, lexeme, tokenAt}
+use Rattle.dogwood_letters.proofs.Run.{run-onward, run-on, string-onward}
+use Rattle.dogwood_letters.proofs.SymbolLaws.{double-zero}
 
 -- ---- a run
 

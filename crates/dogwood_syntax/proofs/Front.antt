@@ -17,14 +17,15 @@ use Rattle.utf8.specs.Utf8.{decodeAt}
 use Rattle.utf8.specs.declared.Decoded.the-variants.{Char}
 use Rattle.utf8.proofs.Cases.{and-true}
 use Rattle.utf8.proofs.Reading.{Reads, reads-more, size-ascii, next-at}
-use Rattle.dogwood_syntax.specs.declared.runs.Class.{Class}
-use Rattle.dogwood_syntax.specs.declared.runs.Class.the-variants.{Space, Word, Digit, Line, Other}
+use Rattle.dogwood_letters.specs.declared.runs.Class.{Class}
+use Rattle.dogwood_letters.specs.declared.runs.Class.the-variants.{Space, Word, Digit, Line, Other}
 use Rattle.dogwood_syntax.specs.declared.token.Lexeme.{Lexeme}
 use Rattle.dogwood_syntax.specs.declared.token.Lexeme.the-variants.{Token, NoEnd}
-use Rattle.dogwood_syntax.specs.Class.{inClass}
-use Rattle.dogwood_syntax.specs.Run.{runEnd, stringEnd}
-use Rattle.dogwood_syntax.specs.Token.{symbolLen, stringTo, begins, lexeme, tokenAt}
-use Rattle.dogwood_syntax.proofs.SymbolLaws.{eqb-sym, double-zero, double-big, double-next, single-big}
+use Rattle.dogwood_letters.specs.Class.{inClass}
+use Rattle.dogwood_letters.specs.Run.{runEnd, stringEnd}
+use Rattle.dogwood_letters.specs.Symbol.{symbolLen}
+use Rattle.dogwood_syntax.specs.Token.{stringTo, begins, lexeme, tokenAt}
+use Rattle.dogwood_letters.proofs.SymbolLaws.{eqb-sym, double-zero, double-big, double-next, single-big}
 use Rattle.dogwood_syntax.proofs.Onwards.{run-reads, string-reads, ended}
 
 -- the token at the place i, from what the rules give

@@ -1,5 +1,3 @@
-pub mod SymbolLaws
-pub mod Run
 pub mod Bounds
 pub mod Tokens
 pub mod Onwards

@@ -20,10 +20,10 @@ use Rattle.utf8.specs.declared.Decoded.the-variants.{Char, Fault}
 use Rattle.utf8.specs.declared.Found.{Found}
 use Rattle.utf8.specs.declared.Found.the-variants.{At, Nothing}
 use Rattle.utf8.proofs.Reading.{Reads, reads-end, reads-more}
-use Rattle.dogwood_syntax.specs.declared.runs.Class.{Class}
-use Rattle.dogwood_syntax.specs.Class.{inClass}
-use Rattle.dogwood_syntax.specs.Run.{runEnd, stringEnd}
-use Rattle.dogwood_syntax.proofs.Run.{run-on, run-off, run-cut, string-cut, string-close, string-past, string-escape, string-open}
+use Rattle.dogwood_letters.specs.declared.runs.Class.{Class}
+use Rattle.dogwood_letters.specs.Class.{inClass}
+use Rattle.dogwood_letters.specs.Run.{runEnd, stringEnd}
+use Rattle.dogwood_letters.proofs.Run.{run-on, run-off, run-cut, string-cut, string-close, string-past, string-escape, string-open}
 
 -- n characters on
 pub reads-drop : (s : List ℕ) {i : ℕ} {cs : List ℕ} (n : ℕ) → Reads s i cs → Reads s (i + byteLength (take n cs)) (drop n cs)

@@ -18,17 +18,18 @@ use Rattle.utf8.proofs.Cases.{and-true}
 use Rattle.utf8.proofs.Inside.{inside, plain}
 use Rattle.utf8.proofs.Reading.{size-at, size-ascii, wide-at, end-fault}
 use Rattle.utf8.proofs.Walk.{Onward, from-go, from-stop, from-ind, stop≢go}
-use Rattle.dogwood_syntax.specs.declared.runs.Class.{Class}
-use Rattle.dogwood_syntax.specs.declared.runs.Class.the-variants.{Space, Word, Digit, Line, Other}
+use Rattle.dogwood_letters.specs.declared.runs.Class.{Class}
+use Rattle.dogwood_letters.specs.declared.runs.Class.the-variants.{Space, Word, Digit, Line, Other}
 use Rattle.dogwood_syntax.specs.declared.token.Lexeme.{Lexeme}
 use Rattle.dogwood_syntax.specs.declared.token.Lexeme.the-variants.{Token, NoEnd, End}
-use Rattle.dogwood_syntax.specs.Class.{inClass}
-use Rattle.dogwood_syntax.specs.Run.{pastOne, runStep, runEnd, stringEnd}
+use Rattle.dogwood_letters.specs.Class.{inClass}
+use Rattle.dogwood_letters.specs.Run.{pastOne, runStep, runEnd, stringEnd}
 use Rattle.dogwood_syntax.specs.Scan.{quote, scanned, scanStep, scanFrom}
-use Rattle.dogwood_syntax.specs.Token.{symbolLen, stringTo, begins, lexeme, tokenAt}
+use Rattle.dogwood_letters.specs.Symbol.{symbolLen}
+use Rattle.dogwood_syntax.specs.Token.{stringTo, begins, lexeme, tokenAt}
 use Rattle.dogwood_syntax.specs.Tokens.{sought, openStep, openFrom}
-use Rattle.dogwood_syntax.proofs.SymbolLaws.{double-not}
-use Rattle.dogwood_syntax.proofs.Run.{run-onward}
+use Rattle.dogwood_letters.proofs.SymbolLaws.{double-not}
+use Rattle.dogwood_letters.proofs.Run.{run-onward}
 use Rattle.dogwood_syntax.proofs.Bounds.{run-stop, run-some, string-inside, double-inside}
 use Rattle.dogwood_syntax.proofs.Front.{single-ascii, double-ascii, slash-in}
 use Rattle.dogwood_syntax.proofs.Tokens.{open-onward}

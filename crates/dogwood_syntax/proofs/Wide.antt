@@ -6,11 +6,12 @@ use mathlib.Core.List.{List}
 use native.Mathlib.Omega.{arith}
 use borrow.Author.Tests.{le-leb, lt-leb, ne-eqb}
 use Rattle.dogwood_rules.specs.Token.{white, letter, digit}
-use Rattle.dogwood_syntax.specs.declared.runs.Class.the-variants.{Space, Other}
+use Rattle.dogwood_letters.specs.declared.runs.Class.the-variants.{Space, Other}
 use Rattle.dogwood_syntax.specs.declared.token.Lexeme.the-variants.{Token}
-use Rattle.dogwood_syntax.specs.Run.{runEnd}
-use Rattle.dogwood_syntax.specs.Token.{symbolLen, begins}
-use Rattle.dogwood_syntax.proofs.SymbolLaws.{single-big, double-big}
+use Rattle.dogwood_letters.specs.Run.{runEnd}
+use Rattle.dogwood_letters.specs.Symbol.{symbolLen}
+use Rattle.dogwood_syntax.specs.Token.{begins}
+use Rattle.dogwood_letters.proofs.SymbolLaws.{single-big, double-big}
 
 digit-big : (c : ℕ) → 128 ≤ c → digit c ≡ false
 unfolding digit

@@ -1,5 +1,3 @@
-pub mod Class
-pub mod Run
 pub mod Token
 pub mod Scan
 pub mod Cursor

@@ -10,8 +10,8 @@ use Rattle.utf8.specs.declared.Decoded.{Decoded}
 use Rattle.utf8.specs.declared.Decoded.the-variants.{Char, Fault}
 use Rattle.utf8.specs.declared.Found.{Found}
 use Rattle.utf8.specs.declared.Found.the-variants.{At, Nothing}
-use Rattle.dogwood_syntax.specs.declared.runs.Class.the-variants.{Line}
-use Rattle.dogwood_syntax.specs.Run.{runEnd, stringEnd}
+use Rattle.dogwood_letters.specs.declared.runs.Class.the-variants.{Line}
+use Rattle.dogwood_letters.specs.Run.{runEnd, stringEnd}
 
 -- past a string, or stop at the quote of one without end
 abbrev pub quote : ℕ → Found → Next (Unit {0}) Found

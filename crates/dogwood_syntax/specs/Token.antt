@@ -9,15 +9,12 @@ use Rattle.utf8.specs.declared.Decoded.{Decoded}
 use Rattle.utf8.specs.declared.Decoded.the-variants.{Char, Fault}
 use Rattle.utf8.specs.declared.Found.{Found}
 use Rattle.utf8.specs.declared.Found.the-variants.{At, Nothing}
-use Rattle.dogwood_syntax.specs.declared.runs.Class.the-variants.{Space, Word, Digit, Line, Other}
+use Rattle.dogwood_letters.specs.declared.runs.Class.the-variants.{Space, Word, Digit, Line, Other}
 use Rattle.dogwood_syntax.specs.declared.token.Lexeme.{Lexeme}
 use Rattle.dogwood_syntax.specs.declared.token.Lexeme.the-variants.{Token, NoEnd, End}
-use Rattle.dogwood_rules.specs.Token.{white, letter, digit, single, double}
-use Rattle.dogwood_syntax.specs.Run.{runEnd, stringEnd}
-
--- the length of the symbol that a and the byte b begin with: 0 where there is none
-unfoldable pub symbolLen : ℕ → ℕ → ℕ
-symbolLen a b = cond (double a b) 2 (cond (single a) 1 0)
+use Rattle.dogwood_rules.specs.Token.{white, letter, digit}
+use Rattle.dogwood_letters.specs.Symbol.{symbolLen}
+use Rattle.dogwood_letters.specs.Run.{runEnd, stringEnd}
 
 -- a string to its end, if it has one
 abbrev pub stringTo : Found → Lexeme

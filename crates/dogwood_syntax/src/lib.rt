@@ -1,14 +1,10 @@
 // Tokens of a text: document 000's tokenizer on bytes and offsets.
-mod classes;
 mod cursor;
-mod runs;
-mod strings;
-mod symbols;
+mod open;
 mod table;
 mod token;
 mod tokenizing;
 
-pub use classes::is_space;
 pub use cursor::Cursor;
 pub use cursor::Step;
 pub use cursor::Token;

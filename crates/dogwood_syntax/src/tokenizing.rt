@@ -5,7 +5,7 @@ ghost use lib.ListN.{length};
 ghost use Rattle.dogwood_rules.specs.Contracts.{Tokenises};
 ghost use Rattle.dogwood_syntax.specs.Numbers.{number, value};
 ghost use Rattle.dogwood_syntax.specs.Tokens.{answer, tableAfter};
-use crate::strings::first_open;
+use crate::open::first_open;
 use crate::table::RECORD;
 use crate::table::fill;
 use crate::table::shortage;

@@ -1,7 +1,7 @@
 use native.Mathlib.Omega.{arith}
 use borrow.Author.Tests.{eq-eqb, ne-eqb, lt-ltb, le-ltb}
 use Rattle.dogwood_syntax.specs.Token.{begins}
-use Rattle.dogwood_syntax.proofs.SymbolLaws.{symbol-most}
+use Rattle.dogwood_letters.proofs.SymbolLaws.{symbol-most}
 use borrow.Author.Needs.{needs}
 use Rattle.dogwood_syntax.proofs.token.ascii_token.Statement.{statement}
 use Rattle.dogwood_syntax.proofs.token.ascii_token.Tie as tie
