@@ -18,7 +18,7 @@ use Rattle.dogwood_rules.proofs.Below.{and-true}
 use Rattle.dogwood_rules.proofs.Fitting.{fits-says}
 use Rattle.dogwood_rules.proofs.Chains.{Read, Chain, chain-more, tokenise-made}
 use Rattle.dogwood_outline.specs.Pass.{quiet, placedIn}
-use Rattle.dogwood_outline.proofs.Bools.{false-true, or-true}
+use Rattle.dogwood_words.proofs.Bools.{false-true, or-true}
 use Rattle.dogwood_outline.proofs.Spans.{from-on, from-off, upTo-on, upTo-off, from-from}
 use Rattle.dogwood_outline.proofs.PartsPass.{gaps-step, balance-step, within-step, beyond-step}
 use Rattle.dogwood_outline.proofs.Symbols.{no-opener, no-closer}

@@ -10,7 +10,7 @@ use Rattle.utf8.specs.declared.Found.the-variants.{At, Nothing}
 use Rattle.dogwood_rules.specs.Basic.{if_then_else_}
 use Rattle.dogwood_rules.specs.Outline.{statements}
 use Rattle.dogwood_outline.specs.Judges.{JudgesIn}
-use Rattle.dogwood_outline.specs.Search.{foundOf, absent}
+use Rattle.dogwood_words.specs.Search.{foundOf, absent}
 use Rattle.dogwood_outline.specs.Table.{commentBefore, deepIn, fitsIn, firstCommentIn, judgedIn}
 use Rattle.dogwood_outline.specs.Verdicts.{nested}
 use Rattle.dogwood_outline.proofs.TableSearch.{found-none, found-some}

@@ -8,8 +8,8 @@ use lib.Dec.{eqb}
 use lib.ListN.{getD}
 use borrow.Author.Tests.{eq-eqb, ne-eqb}
 use Rattle.dogwood_rules.specs.Outline.{Span, kindOk, onlyPart, sameSpan}
-use Rattle.dogwood_outline.proofs.Bools.{and-false}
-use Rattle.dogwood_outline.specs.Records.{spansAt, statementAt}
+use Rattle.dogwood_words.proofs.Bools.{and-false}
+use Rattle.dogwood_words.specs.Records.{spansAt, statementAt}
 
 not-only : (s : Span) (ws : List ℕ) (n k : ℕ) → (n ≡ 1 → ⊥) → onlyPart s (spansAt ws n k) ≡ false
 unfolding onlyPart spansAt

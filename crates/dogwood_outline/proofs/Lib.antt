@@ -1,7 +1,4 @@
-pub mod Bools
-pub mod RowSteps
 pub mod TableSearch
-pub mod GapSteps
 pub mod PartTurns
 pub mod Spans
 pub mod Tabled
@@ -12,7 +9,6 @@ pub mod Took
 pub mod Texts
 pub mod SearchSteps
 pub mod KindOf
-pub mod Words
 pub mod RecordTurns
 pub mod Deep
 pub mod JudgeSteps

@@ -17,8 +17,8 @@ use Rattle.dogwood_rules.specs.Searches.{commentIn}
 use Rattle.dogwood_rules.proofs.Below.{and-true}
 use Rattle.dogwood_rules.proofs.Cutting.{cut-step, cut-stop}
 use Rattle.dogwood_outline.specs.Pass.{placedIn, outlinePass, passes}
-use Rattle.dogwood_outline.specs.Search.{absent}
-use Rattle.dogwood_outline.proofs.Bools.{false-true}
+use Rattle.dogwood_words.specs.Search.{absent}
+use Rattle.dogwood_words.proofs.Bools.{false-true}
 use Rattle.dogwood_outline.proofs.Texts.{fit-law}
 
 length-none : (ws : List ℕ) → length ws ≡ 0 → ws ≡ []

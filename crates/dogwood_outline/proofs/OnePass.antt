@@ -13,7 +13,7 @@ use Rattle.dogwood_rules.specs.Outline.{Statement, statements, upTo, from, with
 use Rattle.dogwood_rules.proofs.Below.{and-true}
 use Rattle.dogwood_rules.proofs.Fitting.{fits-says, says-fits}
 use Rattle.dogwood_outline.specs.Pass.{quiet, here, stands, gap, partsPass, statementPass, outlinePass, passes}
-use Rattle.dogwood_outline.proofs.Bools.{or-false, or-true, both-ways, eqb-sym}
+use Rattle.dogwood_words.proofs.Bools.{or-false, or-true, both-ways, eqb-sym}
 use Rattle.dogwood_outline.proofs.Spans.{from-on, from-off, stands-le, stands-here, word-below, Below, below-from, below-here, below-all, below-none}
 use Rattle.dogwood_outline.proofs.PartsPass.{bounded-from, parts-say, parts-pass}
 

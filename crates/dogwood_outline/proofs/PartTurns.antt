@@ -10,12 +10,13 @@ use lib.ListN.{length, getD, drop}
 use borrow.Author.Tests.{lt-ltb, le-ltb}
 use Rattle.dogwood_rules.specs.Outline.{Span}
 use Rattle.utf8.specs.declared.Found.the-variants.{At, Nothing}
-use Rattle.dogwood_outline.specs.declared.walks.Walked.the-variants.{Sound, Off}
-use Rattle.dogwood_outline.specs.Records.{spansAt}
-use Rattle.dogwood_outline.specs.Search.{foundOf, absent}
-use Rattle.dogwood_outline.specs.Table.{gapIn, partIn, partsIn, walkedOf}
+use Rattle.dogwood_words.specs.declared.walks.Walked.the-variants.{Sound, Off}
+use Rattle.dogwood_words.specs.Records.{spansAt}
+use Rattle.dogwood_words.specs.Search.{foundOf, absent}
+use Rattle.dogwood_words.specs.Rows.{gapIn, partIn, walkedOf}
+use Rattle.dogwood_outline.specs.Table.{partsIn}
 use Rattle.dogwood_outline.proofs.TableSearch.{found-none as found-nothing, found-some}
-use Rattle.dogwood_outline.proofs.Bools.{and-false}
+use Rattle.dogwood_words.proofs.Bools.{and-false}
 
 pub found-at : (o : Option ℕ) {j : ℕ} → foundOf o ≡ At j → o ≡ some j
 found-at o e = found-some o (sym e)

@@ -11,7 +11,7 @@ use Rattle.dogwood_rules.specs.Token.{Placed, tokens}
 use Rattle.dogwood_rules.specs.Outline.{Span, upTo, from, within, beyond, partsOf, plain, gapsOk, ascending, balanced, boundary, boundaries}
 use Rattle.dogwood_rules.proofs.Below.{and-true}
 use Rattle.dogwood_outline.specs.Pass.{quiet, here, stands, spoken, gap, part, partsPass}
-use Rattle.dogwood_outline.proofs.Bools.{or-assoc, or-false}
+use Rattle.dogwood_words.proofs.Bools.{or-assoc, or-false}
 use Rattle.dogwood_outline.proofs.Spans.{from-from, upTo-upTo, from-upTo, some-split, quiet-none, stands-le, stands-here}
 
 -- One part --------------------------------------------------------------------------------------------------------

@@ -10,13 +10,14 @@ use lib.ListN.{length, getD, drop}
 use borrow.Author.Tests.{ne-eqb}
 use Rattle.dogwood_rules.specs.Outline.{Statement, statements, kindOk}
 use Rattle.utf8.specs.declared.Found.the-variants.{At, Nothing}
-use Rattle.dogwood_outline.specs.declared.records.Reading.the-variants.{Whole, Short}
-use Rattle.dogwood_outline.specs.declared.records.Record.{Record}
-use Rattle.dogwood_outline.specs.Records.{statementAt, recordAt}
-use Rattle.dogwood_outline.specs.Search.{foundOf, absent}
-use Rattle.dogwood_outline.specs.Table.{skipIn, gapIn, partsIn, statementsIn, fitsIn}
-use Rattle.dogwood_outline.proofs.Bools.{and-false}
-use Rattle.dogwood_outline.proofs.Words.{records-end, records-stop, records-more, whole, said, unsaid}
+use Rattle.dogwood_words.specs.declared.records.Reading.the-variants.{Whole, Short}
+use Rattle.dogwood_words.specs.declared.records.Record.{Record}
+use Rattle.dogwood_words.specs.Records.{statementAt, recordAt}
+use Rattle.dogwood_words.specs.Search.{foundOf, absent}
+use Rattle.dogwood_words.specs.Rows.{skipIn, gapIn}
+use Rattle.dogwood_outline.specs.Table.{partsIn, statementsIn, fitsIn}
+use Rattle.dogwood_words.proofs.Bools.{and-false}
+use Rattle.dogwood_words.proofs.Words.{records-end, records-stop, records-more, whole, said, unsaid}
 use Rattle.dogwood_outline.proofs.PartTurns.{partsLeft, found-at, found-none}
 
 -- One statement -------------------------------------------------------------------------------------------------------

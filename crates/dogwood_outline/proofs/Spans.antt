@@ -11,7 +11,7 @@ use Rattle.dogwood_rules.specs.Token.{Token, Placed, tokens}
 use Rattle.dogwood_rules.specs.Outline.{upTo, from, plain}
 use Rattle.dogwood_rules.proofs.Below.{and-true}
 use Rattle.dogwood_outline.specs.Pass.{quiet, here, stands}
-use Rattle.dogwood_outline.proofs.Bools.{false-true, or-assoc}
+use Rattle.dogwood_words.proofs.Bools.{false-true, or-assoc}
 
 module _ (n : ℕ) (p : Placed) (ps : List Placed) where
   pub from-on : ltb (p .start) n ≡ true → from n (p ∷ ps) ≡ from n ps

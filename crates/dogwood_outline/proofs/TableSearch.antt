@@ -10,15 +10,16 @@ use borrow.Author.Tests.{lt-ltb, le-ltb, eq-eqb, ne-eqb}
 use Rattle.utf8.specs.declared.Found.the-variants.{At, Nothing}
 use Rattle.dogwood_rules.specs.Outline.{Statement, statement, statements}
 use Rattle.dogwood_rules.specs.Searches.{orElse}
-use Rattle.dogwood_outline.specs.declared.rows.Row.the-variants.{Ended}
-use Rattle.dogwood_outline.specs.declared.records.Reading.the-variants.{Whole, Short}
-use Rattle.dogwood_outline.specs.declared.records.Record.{Record}
-use Rattle.dogwood_outline.specs.Brackets.{opening, closing}
-use Rattle.dogwood_outline.specs.Records.{statementAt, recordAt}
-use Rattle.dogwood_outline.specs.Search.{foundOf, absent}
-use Rattle.dogwood_outline.specs.Table.{rowOf, skipIn, commentBefore, deepIn, firstCommentIn}
-use Rattle.dogwood_outline.proofs.RowSteps.{few, Stands, row-ended}
-use Rattle.dogwood_outline.proofs.Words.{records-end, records-stop, records-more, said, unsaid}
+use Rattle.dogwood_words.specs.declared.rows.Row.the-variants.{Ended}
+use Rattle.dogwood_words.specs.declared.records.Reading.the-variants.{Whole, Short}
+use Rattle.dogwood_words.specs.declared.records.Record.{Record}
+use Rattle.dogwood_words.specs.Brackets.{opening, closing}
+use Rattle.dogwood_words.specs.Records.{statementAt, recordAt}
+use Rattle.dogwood_words.specs.Search.{foundOf, absent}
+use Rattle.dogwood_words.specs.Rows.{rowOf, skipIn}
+use Rattle.dogwood_outline.specs.Table.{commentBefore, deepIn, firstCommentIn}
+use Rattle.dogwood_words.proofs.RowSteps.{few, Stands, row-ended}
+use Rattle.dogwood_words.proofs.Words.{records-end, records-stop, records-more, said, unsaid}
 
 -- A comment ------------------------------------------------------------------------------------------------------------
 

@@ -14,11 +14,12 @@ use Rattle.dogwood_rules.specs.Token.{Token, Kind, Whitespace, Comment, String,
 use Rattle.dogwood_rules.specs.Tree.{blank, comment, isWhitespace, isComment, opener, closer}
 use Rattle.dogwood_rules.specs.Outline.{Span, Statement, statements, upTo, from, plain, balanced, kindOk, within, beyond}
 use Rattle.dogwood_rules.specs.Searches.{commentIn, orElse, firstComment, tooDeep}
-use Rattle.dogwood_outline.specs.Brackets.{opening, closing}
+use Rattle.dogwood_words.specs.Brackets.{opening, closing}
 use Rattle.dogwood_outline.specs.Pass.{quiet, spoken, here, stands, gap, part, partsPass, statementPass, outlinePass}
-use Rattle.dogwood_outline.specs.Search.{absent}
-use Rattle.dogwood_outline.specs.Table.{skipIn, gapIn, partIn, commentBefore, deepIn, partsIn, statementsIn, firstCommentIn}
-use Rattle.dogwood_outline.proofs.Bools.{or-assoc, or-false}
+use Rattle.dogwood_words.specs.Search.{absent}
+use Rattle.dogwood_words.specs.Rows.{skipIn, gapIn, partIn}
+use Rattle.dogwood_outline.specs.Table.{commentBefore, deepIn, partsIn, statementsIn, firstCommentIn}
+use Rattle.dogwood_words.proofs.Bools.{or-assoc, or-false}
 use Rattle.dogwood_outline.proofs.Spans.{from-on, from-off, upTo-on, upTo-off}
 use Rattle.dogwood_outline.proofs.SearchSteps.{deep-here, deep-open, deep-close, deep-plain}
 

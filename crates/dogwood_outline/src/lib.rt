@@ -1,12 +1,9 @@
 // Outlines: reading their records, the test of fit, what answers 2, 3 and 5 look for, and testing an outline alone.
-mod brackets;
 mod fitting;
 mod judging;
-mod records;
-mod rows;
+mod kinds;
 mod searches;
 mod testing;
-mod walks;
 
 pub use judging::Verdict;
 pub use judging::judge;

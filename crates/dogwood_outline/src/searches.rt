@@ -4,15 +4,15 @@ ghost use mathlib.Core.Bool.{_&&_};
 ghost use lib.Dec.{eqb};
 ghost use lib.ListN.{length, drop};
 ghost use Rattle.dogwood_rules.specs.Outline.{statements};
-ghost use Rattle.dogwood_outline.specs.Search.{foundOf, absent};
+ghost use Rattle.dogwood_words.specs.Search.{foundOf, absent};
 ghost use Rattle.dogwood_outline.specs.Table.{commentBefore, firstCommentIn, deepIn};
-use crate::brackets::closes;
-use crate::brackets::opens;
-use crate::records::Reading;
-use crate::records::record_at;
-use crate::rows::Row;
-use crate::rows::row_at;
-use crate::rows::skip;
+use dogwood_words::Reading;
+use dogwood_words::Row;
+use dogwood_words::closes;
+use dogwood_words::opens;
+use dogwood_words::record_at;
+use dogwood_words::row_at;
+use dogwood_words::skip;
 use utf8::Found;
 
 // The nesting that is allowed.

@@ -5,7 +5,7 @@ use mathlib.Core.Path.{_≡_, sym, _∙_}
 use native.Mathlib.Omega.{arith}
 use lib.ListN.{length}
 use Rattle.dogwood_outline.specs.Table.{fitsIn}
-use Rattle.dogwood_outline.proofs.Words.{said, parts-room, next-room}
+use Rattle.dogwood_words.proofs.Words.{said, parts-room, next-room}
 use Rattle.dogwood_outline.proofs.RecordTurns.{recordsLeft, left-off, left-end, left-none, left-kind, left-gap, left-parts, left-on, left-all}
 use Rattle.dogwood_outline.proofs.fitting.fit.Statement.{statement}
 use Rattle.dogwood_outline.proofs.fitting.fit.Tie as tie

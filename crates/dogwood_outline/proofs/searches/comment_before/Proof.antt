@@ -3,9 +3,9 @@ use Prim.Native.Nat.{_-_}
 use mathlib.Core.Path.{_≡_, refl, sym, ap, _∙_}
 use native.Mathlib.Omega.{arith}
 use lib.ListN.{length, drop}
-use Rattle.dogwood_outline.specs.Search.{foundOf}
+use Rattle.dogwood_words.specs.Search.{foundOf}
 use Rattle.dogwood_outline.specs.Table.{commentBefore}
-use Rattle.dogwood_outline.proofs.RowSteps.{row-stands}
+use Rattle.dogwood_words.proofs.RowSteps.{row-stands}
 use Rattle.dogwood_outline.proofs.TableSearch.{comment-done, comment-stop, comment-here, comment-on}
 use Rattle.dogwood_outline.proofs.searches.comment_before.Statement.{statement}
 use Rattle.dogwood_outline.proofs.searches.comment_before.Tie as tie

@@ -3,10 +3,10 @@ use Prim.Native.Nat.{_-_, _≤_}
 use mathlib.Core.Path.{_≡_, refl, sym, ap, _∙_}
 use native.Mathlib.Omega.{arith}
 use lib.ListN.{length, drop}
-use Rattle.dogwood_outline.specs.Brackets.{opening, closing}
-use Rattle.dogwood_outline.specs.Search.{foundOf}
+use Rattle.dogwood_words.specs.Brackets.{opening, closing}
+use Rattle.dogwood_words.specs.Search.{foundOf}
 use Rattle.dogwood_outline.specs.Table.{deepIn}
-use Rattle.dogwood_outline.proofs.RowSteps.{row-stands}
+use Rattle.dogwood_words.proofs.RowSteps.{row-stands}
 use Rattle.dogwood_outline.proofs.TableSearch.{deep-done, deep-here, deep-open, deep-close, deep-under, deep-plain}
 use Rattle.dogwood_outline.proofs.searches.deep_opener.Statement.{statement}
 use Rattle.dogwood_outline.proofs.searches.deep_opener.Tie as tie

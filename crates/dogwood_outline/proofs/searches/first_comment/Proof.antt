@@ -4,9 +4,9 @@ use mathlib.Core.Path.{_≡_, refl, sym, ap, _∙_}
 use native.Mathlib.Omega.{arith}
 use lib.ListN.{length}
 use Rattle.dogwood_rules.specs.Outline.{statements}
-use Rattle.dogwood_outline.specs.Search.{foundOf}
+use Rattle.dogwood_words.specs.Search.{foundOf}
 use Rattle.dogwood_outline.specs.Table.{firstCommentIn}
-use Rattle.dogwood_outline.proofs.Words.{next-room}
+use Rattle.dogwood_words.proofs.Words.{next-room}
 use Rattle.dogwood_outline.proofs.TableSearch.{commentsLeft, comments-end, comments-none, comments-here, comments-on}
 use Rattle.dogwood_outline.proofs.searches.first_comment.Statement.{statement}
 use Rattle.dogwood_outline.proofs.searches.first_comment.Tie as tie

@@ -2,7 +2,7 @@ use mathlib.Core.Path.{sym, ap, _∙_}
 use mathlib.Core.Bool.{Bool, _&&_}
 use lib.ListN.{length}
 use borrow.Author.Tests.{eq-eqb, ne-eqb}
-use Rattle.dogwood_outline.specs.Search.{absent}
+use Rattle.dogwood_words.specs.Search.{absent}
 use Rattle.dogwood_outline.specs.Table.{commentBefore}
 use Rattle.dogwood_outline.proofs.TableSearch.{found-absent, found-present}
 use borrow.Author.Needs.{needs}

@@ -1,0 +1,4 @@
+pub mod Bools
+pub mod RowSteps
+pub mod GapSteps
+pub mod Words

@@ -1,0 +1,4 @@
+pub mod Brackets
+pub mod Records
+pub mod Search
+pub mod Rows
