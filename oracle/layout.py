@@ -1,6 +1,6 @@
-"""`lay_out` of dogwood_formatter beside the Rust's: runs laid out at many widths and indents.
+"""`lay_out` of dogwood_groups beside the Rust's: runs laid out at many widths and indents.
 
-`lay_out` is private to its crate and asks what the whole call will have established. So a copy of the crates stands in
+`lay_out` stands in an inner crate and asks what the whole call will have established. So a copy of the crates stands in
 target/oracle/layout, in which one function more hands `lay_out` out under the same terms; the copy is proved, and its archive is
 called from here. That the terms are met is seen to here: the tokens are those of the second reading, and each run balances.
 """
@@ -19,14 +19,14 @@ import reading
 import rust
 
 PLACE = os.path.join(rust.BUILT, "layout")
-CRATE = "dogwood_formatter"
+CRATE = "dogwood_groups"
 ARCHIVE = os.path.join(PLACE, "target", "staticlib", f"lib{CRATE}.a")
 EXPORT = """
 #[no_mangle]
 pub extern "C" fn dogwood_lay_out(out: &mut [u8], text: &[u8], table: &[u32], width: usize, indent: usize) -> usize
     {requires}
 {{
-    lay::lay_out(out, text, table, lay::Page {{ width, indent }}, 0)
+    lay::lay_out(out, text, table, dogwood_layout::Page {{ width, indent }}, 0)
 }}
 """
 # what every run of up to six tokens is made of

@@ -1,4 +1,4 @@
-// Times lay_out of dogwood_formatter beside the Rust's on a run of small groups, `f(a1) f(a2) ..`, at three lengths.
+// Times lay_out of dogwood_groups beside the Rust's on a run of small groups, `f(a1) f(a2) ..`, at three lengths.
 
 mod timing;
 

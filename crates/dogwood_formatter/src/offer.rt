@@ -1,6 +1,6 @@
 // Bytes that are written whole where there is room for them, and else not at all.
-use dogwood_statements::top_level_items;
 use dogwood_layout::Page;
+use dogwood_statements::top_level_items;
 use pen::put_all;
 use utf8::split_bom;
 ghost use mathlib.Core.Path.{_≡_};

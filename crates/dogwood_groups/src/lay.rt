@@ -1,15 +1,15 @@
 // The layout of a run and of a broken group's items.
+use dogwood_flat::flat;
+use dogwood_flat::measure;
+use dogwood_flat::put_closing;
+use dogwood_flat::put_token;
 use dogwood_layout::Page;
 use dogwood_layout::Span;
 use dogwood_runs::entry_at;
 use dogwood_runs::filled;
-use dogwood_runs::flat;
 use dogwood_runs::item_end;
 use dogwood_runs::lead;
-use dogwood_runs::measure;
 use dogwood_runs::piece_end;
-use dogwood_runs::put_closing;
-use dogwood_runs::put_token;
 use dogwood_runs::split_items;
 use dogwood_runs::trimmed;
 use pen::add;

@@ -53,11 +53,6 @@ lines-joined [] = refl
 lines-joined (x ∷ []) = sym (append-nil x)
 lines-joined (x ∷ y ∷ ys) = ap (λ (l : List ℕ). x ++ 10 ∷ l) (lines-joined (y ∷ ys))
 
-pub lines-few : (n : ℕ) (ls : List (List ℕ)) → n ≤ 2 → linesDue n ls ≤ 2
-unfolding linesDue
-lines-few n [] h = h
-lines-few n (l ∷ ls) h = omega arith
-
 -- a line that is one
 pub line-added : (l : List ℕ) → (l ≡ [] → ⊥) → addLine l [] ≡ l ∷ []
 unfolding addLine

@@ -151,7 +151,6 @@ pub record FileAt (S : Settings) (text ws outline old new : List ℕ) (n feeds i
   pub fits : i ≤ length ws
   pub holds : Holds text (drop i ws)
   pub exact : statements (drop o outline) .1 ≡ []
-  pub few : feeds ≤ 2
   pub sane : AllSane (pieces (statements (drop o outline) .0) (entries text (drop i ws)))
   pub done : List ℕ
   pub wrote : Wrote old (encode done) n new
@@ -165,7 +164,6 @@ module _ (S : Settings) (text ws outline : List ℕ) where
         fits = omega arith;
         holds = h;
         exact = e;
-        few = omega arith;
         sane = s;
         done = [];
         wrote = wrote-nil old;
@@ -235,7 +233,6 @@ module _ (S : Settings) (text ws outline : List ℕ) where
           fits = cv .fits;
           holds = cv .holds;
           exact = ap (λ (r : List Statement × List ℕ). r .1) (sym (here .read)) ∙ a .exact;
-          few = omega arith;
           sane = sane-here .rest;
           done = a .done ++ one;
           wrote = wrote-more (a .done) one (a .wrote) p k w z;

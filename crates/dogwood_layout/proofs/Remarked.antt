@@ -1,5 +1,5 @@
 -- The comments of a table, written one after the other.
-use mathlib.Core.Path.{_≡_, refl, sym, _∙_, ap, subst}
+use mathlib.Core.Path.{_≡_, refl, sym, _∙_, ap}
 use mathlib.Core.Bool.{Bool, true, false}
 use mathlib.Core.List.{List, [], _∷_, _++_, append-nil, append-assoc}
 use Prim.Native.Nat.{ℕ, _+_, _-_, _<_, _≤_, min}
@@ -21,7 +21,7 @@ use Rattle.dogwood_layout.specs.Feeds.{behind, dueRemarks, remarksDue, D
 use Rattle.dogwood_layout.proofs.Bytes.{encode-append}
 use Rattle.dogwood_layout.proofs.Tables.{tokens-at, holds-at, entry-there, no-words, bytes-length}
 use Rattle.dogwood_layout.proofs.Kept.{kept-bytes, kept-fits, spelt-whole}
-use Rattle.dogwood_layout.proofs.Dues.{encode-feeds, wrote-more, remarks-more, remarks-later, remarks-few}
+use Rattle.dogwood_layout.proofs.Dues.{encode-feeds, wrote-more, remarks-more, remarks-later}
 
 -- a comment is told by the kind
 token-comment : (text : List ℕ) (e : Entry) → comment (tokenOf text e) ≡ eqb (e .kind) 1
@@ -99,16 +99,15 @@ module _ {text : List ℕ} {e : Entry} (h : Held text e) where
 pub record RemarksAt (text ws : List ℕ) (feeds : ℕ) (old new : List ℕ) (n due i : ℕ) : Type 0 where
   pub fits : i ≤ length ws
   pub holds : Holds text (drop i ws)
-  pub few : due ≤ 2
   pub done : List ℕ
   pub wrote : Wrote old (encode done) n new
   pub left : done ++ dueRemarks due (tokens text (drop i ws)) ≡ dueRemarks feeds (tokens text ws)
   pub later : remarksDue due (tokens text (drop i ws)) ≡ remarksDue feeds (tokens text ws)
 
 module _ (text ws : List ℕ) (feeds : ℕ) where
-  pub remarks-start : (old : List ℕ) → Holds text ws → feeds ≤ 2 → RemarksAt text ws feeds old old 0 feeds 0
+  pub remarks-start : (old : List ℕ) → Holds text ws → RemarksAt text ws feeds old old 0 feeds 0
   unfolding encode
-  remarks-start old h k = record { fits = omega arith; holds = h; few = k; done = []; wrote = wrote-nil old; left = refl; later = refl }
+  remarks-start old h = record { fits = omega arith; holds = h; done = []; wrote = wrote-nil old; left = refl; later = refl }
 
   pub remarks-turn : {old xs ys : List ℕ} {n due i at r next s : ℕ} {e : Entry} → RemarksAt text ws feeds old xs n due i → i < length ws → e ≡ entryAt ws i
       → at ≡ min n (length xs) → length xs ≤ cap
@@ -119,11 +118,9 @@ module _ (text ws : List ℕ) (feeds : ℕ) where
       let t = tokenOf text e in
       let rest = tokens text (drop (i + 3) ws) in
       let all : tokens text (drop i ws) ≡ t ∷ rest = tokens-at text ws i there q in
-      let f = remarks-few due (t ∷ []) (a .few) in
       record {
         fits = omega arith;
         holds = holds-at text ws i there (a .holds) .1;
-        few = subst (λ (m : ℕ). m ≤ 2) (sym (w .due)) f;
         done = a .done ++ dueRemarks due (t ∷ []);
         wrote = wrote-more (a .done) (dueRemarks due (t ∷ [])) (a .wrote) p k (w .wrote) z;
         left =

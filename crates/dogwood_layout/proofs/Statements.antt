@@ -42,7 +42,7 @@ use Rattle.dogwood_layout.proofs.Walks.{layout-trimmed}
 use Rattle.dogwood_layout.proofs.Bounds.{length-part, bounded-less}
 use Rattle.dogwood_layout.proofs.Forming.{formed}
 use Rattle.dogwood_layout.proofs.Places.{entries-tokens, entries-upTo, entries-from, before-fits}
-use Rattle.dogwood_layout.proofs.Dues.{encode-feeds, wrote-more, lines-more, lines-joined, lines-few, line-added}
+use Rattle.dogwood_layout.proofs.Dues.{encode-feeds, wrote-more, lines-more, lines-joined, line-added}
 
 -- A part -------------------------------------------------------------------------------------------------------------------
 
@@ -164,7 +164,6 @@ pub record PartsAt (S : Settings) (text ws parts old new : List ℕ) (n feeds i 
   pub holds : Holds text (drop i ws)
   pub within : j ≤ length parts
   pub paired : Paired (drop j parts)
-  pub few : feeds ≤ 2
   pub all : AllParts (partsOf (pairs (drop j parts)) (entries text (drop i ws)))
   pub done : List ℕ
   pub wrote : Wrote old (encode done) n new
@@ -195,7 +194,6 @@ module _ (S : Settings) (text ws parts : List ℕ) where
         holds = h;
         within = omega arith;
         paired = p;
-        few = omega arith;
         all = a;
         done = [];
         wrote = wrote-nil old;
@@ -245,13 +243,11 @@ module _ (S : Settings) (text ws parts : List ℕ) where
         let pw = a .paired .words in
         let line = layout S 0 (tokens text partWords) in
         let one = dueLines feeds (addLine line []) in
-        let few = lines-few feeds (addLine line []) (a .few) in
         record {
           fits = cv .fits;
           holds = cv .holds;
           within = omega arith;
           paired = record { count = a .paired .count - 1; words = omega arith };
-          few = subst (λ (x : ℕ). x ≤ 2) (sym (w .due)) few;
           all = all-parts .1;
           done = a .done ++ one;
           wrote = wrote-more (a .done) one (a .wrote) p k (w .wrote) z;

@@ -3,7 +3,7 @@ use mathlib.Core.Path.{_≡_}
 use mathlib.Core.List.{List, [], _∷_, _++_}
 use Prim.Native.Nat.{ℕ}
 use lib.ListN.{length, replicate}
-use Rattle.pen.specs.Over.{over, Wrote}
+use Rattle.pen.specs.Over.{over, Wrote, wrote-only}
 use Rattle.dogwood_rules.specs.Basic.{if_then_else_, dropBack}
 use Rattle.dogwood_rules.specs.Utf8.{encode}
 use Rattle.dogwood_rules.specs.Token.{Token, white}
@@ -47,7 +47,15 @@ pub record LaidFile (cs : List ℕ) (old : List ℕ) (r : ℕ) (new : List ℕ) 
   pub count : r ≡ length (encode cs)
   pub bytes : new ≡ over old (encode cs)
 
+-- no second answer and no second output
+pub laid-file-only : (cs old : List ℕ) (r s : ℕ) (new other : List ℕ) → LaidFile cs old r new → LaidFile cs old s other → (r ≡ s) × (new ≡ other)
+laid-file-only cs old r s new other a b = (cc, cc)
+
 -- cs was written, and n LFs are due behind it
 pub record Due (cs : List ℕ) (n : ℕ) (old : List ℕ) (count feeds : ℕ) (new : List ℕ) : Type 0 where
   pub wrote : Wrote old (encode cs) count new
   pub due : feeds ≡ n
+
+-- no second count, no second number of LFs and no second output
+pub due-only : (cs : List ℕ) (n : ℕ) (old : List ℕ) (r s feeds due : ℕ) (new other : List ℕ) → Due cs n old r feeds new → Due cs n old s due other → (r ≡ s) × (feeds ≡ due) × (new ≡ other)
+due-only cs n old r s feeds due new other a b = let w = wrote-only old (encode cs) r s new other (a .wrote) (b .wrote) in (w .0, cc, w .1)

@@ -24,3 +24,9 @@ pub struct Page {
     pub width: usize,
     pub indent: usize,
 }
+
+// How many bytes were written, and how many LFs are due before what follows.
+pub struct Written {
+    pub count: usize,
+    pub feeds: usize,
+}

@@ -1,2 +1,1 @@
 pub mod SymbolLaws
-pub mod Run

@@ -1,7 +1,7 @@
 // Symbols, of two characters and of one.
 ghost use mathlib.Core.Path.{_≡_};
 ghost use Rattle.dogwood_rules.specs.Token.{single, double};
-ghost use Rattle.dogwood_letters.specs.Symbol.{symbolLen};
+ghost use Rattle.dogwood_letters.specs.Promises.{SymbolIs};
 use crate::classes::is_in;
 
 // One of the symbols of one character.
@@ -28,7 +28,7 @@ pub(crate) fn is_double(a: u32, b: u8) -> bool
 
 // The length of the symbol that a character and the byte after it begin with, or 0.
 pub fn symbol_len(a: u32, b: u8) -> usize
-    ensures { λ r. ⌜ r ≡ symbolLen a b ⌝ }
+    ensures { λ r. ⌜ SymbolIs a b r ⌝ }
 {
     if is_double(a, b) {
         return 2;

@@ -11,9 +11,10 @@ use Rattle.dogwood_rules.specs.Basic.{if_then_else_}
 use Rattle.dogwood_rules.specs.Outline.{statements}
 use Rattle.dogwood_outline.specs.Judges.{JudgesIn}
 use Rattle.dogwood_words.specs.Search.{foundOf, absent}
-use Rattle.dogwood_outline.specs.Table.{commentBefore, deepIn, fitsIn, firstCommentIn, judgedIn}
+use Rattle.dogwood_outline.specs.Table.{fitsIn, judgedIn}
+use Rattle.dogwood_searches.specs.Searches.{commentBefore, deepIn, firstCommentIn}
 use Rattle.dogwood_outline.specs.Verdicts.{nested}
-use Rattle.dogwood_outline.proofs.TableSearch.{found-none, found-some}
+use Rattle.dogwood_words.proofs.Founds.{found-none, found-some}
 
 module _ (text table ws : List ℕ) where
   abbrev found : Option ℕ

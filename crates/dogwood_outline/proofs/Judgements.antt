@@ -12,12 +12,13 @@ use Rattle.dogwood_rules.specs.Token.{Placed, kindNumber, wordsOf}
 use Rattle.dogwood_rules.specs.Outline.{statements, fits, upTo}
 use Rattle.dogwood_rules.specs.File.{Piece, pieces}
 use Rattle.dogwood_rules.specs.Searches.{commentIn, firstComment, deepOpener, tooDeep}
-use Rattle.dogwood_syntax.specs.Cursor.{tokensAt}
+use Rattle.dogwood_tokens.specs.Cursor.{tokensAt}
 use Rattle.dogwood_words.specs.Brackets.{opening, closing}
 use Rattle.dogwood_outline.specs.Judges.{JudgesIn}
 use Rattle.dogwood_outline.specs.Pass.{placedIn, outlinePass, passes}
 use Rattle.dogwood_words.specs.Search.{absent}
-use Rattle.dogwood_outline.specs.Table.{commentBefore, deepIn, statementsIn, fitsIn, firstCommentIn, judgedIn}
+use Rattle.dogwood_outline.specs.Table.{statementsIn, fitsIn, judgedIn}
+use Rattle.dogwood_searches.specs.Searches.{commentBefore, deepIn, firstCommentIn}
 use Rattle.dogwood_outline.specs.Verdicts.{nested, filled, commented, judged, Judges}
 use Rattle.dogwood_outline.proofs.Deep.{deep-law}
 use Rattle.dogwood_outline.proofs.NoPiece.{pieces-none, pieces-some}

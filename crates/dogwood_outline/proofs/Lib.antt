@@ -1,4 +1,3 @@
-pub mod TableSearch
 pub mod PartTurns
 pub mod Spans
 pub mod Tabled

@@ -18,7 +18,7 @@ use Rattle.dogwood_rules.specs.Contracts.{Tokenises, Tests, over}
 use Rattle.dogwood_rules.proofs.Wholes.{source-whole}
 use Rattle.dogwood_syntax.specs.declared.tokenizing.Tokenized.{Tokenized}
 use Rattle.dogwood_syntax.specs.Numbers.{number, value}
-use Rattle.dogwood_syntax.proofs.Tokens.{length-words}
+use Rattle.dogwood_syntax.proofs.Filling.{length-words}
 use Rattle.utf8.proofs.Mark.{text-of}
 use Rattle.dogwood_outline.specs.Pass.{placedIn}
 use Rattle.dogwood_outline.specs.Table.{fitsIn}

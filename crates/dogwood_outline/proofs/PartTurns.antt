@@ -15,7 +15,7 @@ use Rattle.dogwood_words.specs.Records.{spansAt}
 use Rattle.dogwood_words.specs.Search.{foundOf, absent}
 use Rattle.dogwood_words.specs.Rows.{gapIn, partIn, walkedOf}
 use Rattle.dogwood_outline.specs.Table.{partsIn}
-use Rattle.dogwood_outline.proofs.TableSearch.{found-none as found-nothing, found-some}
+use Rattle.dogwood_words.proofs.Founds.{found-none as found-nothing, found-some}
 use Rattle.dogwood_words.proofs.Bools.{and-false}
 
 pub found-at : (o : Option ℕ) {j : ℕ} → foundOf o ≡ At j → o ≡ some j

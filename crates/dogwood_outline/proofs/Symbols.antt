@@ -16,7 +16,7 @@ use Rattle.dogwood_rules.proofs.Below.{and-true, not-true}
 use Rattle.dogwood_rules.proofs.Rules.{Rule, r1, r2, r3, r4, r5, r6, r6′, r7}
 use Rattle.dogwood_rules.proofs.Chains.{Read, Chain, chain-more, tokenise-made}
 use Rattle.utf8.proofs.Reading.{Reads, reads-more, reads-at, byte-at}
-use Rattle.dogwood_syntax.specs.Cursor.{tokensAt}
+use Rattle.dogwood_tokens.specs.Cursor.{tokensAt}
 use Rattle.dogwood_words.specs.Brackets.{opening, closing}
 use Rattle.dogwood_words.proofs.Bools.{false-true, and-false}
 

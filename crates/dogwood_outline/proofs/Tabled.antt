@@ -18,7 +18,8 @@ use Rattle.dogwood_words.specs.Brackets.{opening, closing}
 use Rattle.dogwood_outline.specs.Pass.{quiet, spoken, here, stands, gap, part, partsPass, statementPass, outlinePass}
 use Rattle.dogwood_words.specs.Search.{absent}
 use Rattle.dogwood_words.specs.Rows.{skipIn, gapIn, partIn}
-use Rattle.dogwood_outline.specs.Table.{commentBefore, deepIn, partsIn, statementsIn, firstCommentIn}
+use Rattle.dogwood_outline.specs.Table.{partsIn, statementsIn}
+use Rattle.dogwood_searches.specs.Searches.{commentBefore, deepIn, firstCommentIn}
 use Rattle.dogwood_words.proofs.Bools.{or-assoc, or-false}
 use Rattle.dogwood_outline.proofs.Spans.{from-on, from-off, upTo-on, upTo-off}
 use Rattle.dogwood_outline.proofs.SearchSteps.{deep-here, deep-open, deep-close, deep-plain}

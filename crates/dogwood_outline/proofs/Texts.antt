@@ -6,10 +6,10 @@ use native.Mathlib.Omega.{arith}
 use lib.ListN.{length}
 use Rattle.dogwood_rules.specs.Token.{Placed, Tiled, tiled-end, tiled-more}
 use Rattle.dogwood_rules.specs.Outline.{fits}
-use Rattle.dogwood_syntax.specs.declared.cursor.Step.{Step}
-use Rattle.dogwood_syntax.specs.Cursor.{tokensAt, Walk, walk-end, walk-open, walk-more}
-use Rattle.dogwood_syntax.proofs.Walks.{walks-all}
-use Rattle.dogwood_syntax.proofs.Steps.{next-onward}
+use Rattle.dogwood_tokens.specs.declared.cursor.Step.{Step}
+use Rattle.dogwood_tokens.specs.Cursor.{tokensAt, Walk, walk-end, walk-open, walk-more}
+use Rattle.dogwood_tokens.proofs.Walks.{walks-all}
+use Rattle.dogwood_tokens.proofs.Steps.{next-onward}
 use Rattle.dogwood_outline.specs.Pass.{placedIn, passes}
 use Rattle.dogwood_outline.proofs.Spans.{Below}
 use Rattle.dogwood_outline.proofs.OnePass.{tiled-below, passes-fits}

@@ -6,12 +6,12 @@ use native.Mathlib.Omega.{arith}
 use lib.ListN.{length, drop}
 use Rattle.dogwood_rules.specs.Utf8.{decode, byteLength}
 use Rattle.dogwood_rules.specs.Token.{Token, Placed, kindNumber, placed, tokenise}
-use Rattle.dogwood_syntax.specs.declared.cursor.Token.{Token as TokenOf}
-use Rattle.dogwood_syntax.specs.declared.cursor.Cursor.{Cursor as CursorOf}
-use Rattle.dogwood_syntax.specs.declared.cursor.Step.{Step}
-use Rattle.dogwood_syntax.specs.declared.cursor.Step.the-variants as S
-use Rattle.dogwood_syntax.specs.Cursor.{stepTo, nextOf, tokensAt}
-use Rattle.dogwood_syntax.proofs.Steps.{next-onward, next-token, next-ended, next-unended}
+use Rattle.dogwood_tokens.specs.declared.cursor.Token.{Token as TokenOf}
+use Rattle.dogwood_tokens.specs.declared.cursor.Cursor.{Cursor as CursorOf}
+use Rattle.dogwood_tokens.specs.declared.cursor.Step.{Step}
+use Rattle.dogwood_tokens.specs.declared.cursor.Step.the-variants as S
+use Rattle.dogwood_tokens.specs.Cursor.{stepTo, nextOf, tokensAt}
+use Rattle.dogwood_tokens.proofs.Steps.{next-onward, next-token, next-ended, next-unended}
 
 pub record Took (s : List ℕ) (i : ℕ) (t : TokenOf) (c : CursorOf) : Type 0 where
   pub first : Placed

@@ -3,9 +3,9 @@ ghost use mathlib.Core.Path.{_≡_};
 ghost use Rattle.dogwood_outline.specs.Verdicts.{number, place};
 ghost use Rattle.dogwood_outline.specs.Judges.{JudgesIn};
 use crate::fitting::fit;
-use crate::searches::deep_opener;
-use crate::searches::first_comment;
-use crate::searches::nothing_there;
+use dogwood_searches::deep_opener;
+use dogwood_searches::first_comment;
+use dogwood_searches::nothing_there;
 use utf8::Found;
 
 // What stands between a text with its outline and its layout.

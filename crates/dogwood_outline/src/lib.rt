@@ -1,8 +1,7 @@
-// Outlines: reading their records, the test of fit, what answers 2, 3 and 5 look for, and testing an outline alone.
+// The test of fit, the verdict of answers 4, 2, 3 and 5, and testing an outline alone.
 mod fitting;
 mod judging;
 mod kinds;
-mod searches;
 mod testing;
 
 pub use judging::Verdict;

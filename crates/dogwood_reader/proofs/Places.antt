@@ -17,12 +17,12 @@ use Rattle.dogwood_rules.proofs.Sources.{source-long, source-bad, source-open, 
 use Rattle.utf8.specs.Told.{leftAt}
 use Rattle.utf8.specs.declared.Found.the-variants.{At, Nothing}
 use Rattle.utf8.proofs.Mark.{text-of}
-use Rattle.dogwood_syntax.specs.declared.cursor.Step.{Step}
-use Rattle.dogwood_syntax.specs.declared.cursor.Step.the-variants as S
-use Rattle.dogwood_syntax.specs.Cursor.{nextOf, lastOf, Walk, walk-end, walk-open, walk-more}
+use Rattle.dogwood_tokens.specs.declared.cursor.Step.{Step}
+use Rattle.dogwood_tokens.specs.declared.cursor.Step.the-variants as S
+use Rattle.dogwood_tokens.specs.Cursor.{nextOf, lastOf, Walk, walk-end, walk-open, walk-more}
 use Rattle.dogwood_syntax.proofs.Promise.{bad-kept}
-use Rattle.dogwood_syntax.proofs.Steps.{next-onward, next-bounds}
-use Rattle.dogwood_syntax.proofs.Walks.{walks}
+use Rattle.dogwood_tokens.proofs.Steps.{next-onward, next-bounds}
+use Rattle.dogwood_tokens.proofs.Walks.{walks}
 use Rattle.dogwood_reader.specs.declared.State.{State}
 use Rattle.dogwood_reader.specs.Standing.{stateOf, standing, stepState, placeOf, moved, held}
 

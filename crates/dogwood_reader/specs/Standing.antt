@@ -6,9 +6,9 @@ use lib.Dec.{ltb, eqb}
 use Rattle.dogwood_rules.specs.Utf8.{textOf}
 use Rattle.dogwood_rules.specs.Readings.{reading, token, ended, noEnd, refused}
 use Rattle.dogwood_rules.specs.Readings as R
-use Rattle.dogwood_syntax.specs.declared.cursor.Step.{Step}
-use Rattle.dogwood_syntax.specs.declared.cursor.Step.the-variants as S
-use Rattle.dogwood_syntax.specs.Cursor.{nextOf}
+use Rattle.dogwood_tokens.specs.declared.cursor.Step.{Step}
+use Rattle.dogwood_tokens.specs.declared.cursor.Step.the-variants as S
+use Rattle.dogwood_tokens.specs.Cursor.{nextOf}
 use Rattle.dogwood_reader.specs.declared.State.{State}
 use Rattle.dogwood_reader.specs.declared.Reading.{Reading}
 use Rattle.dogwood_reader.specs.declared.Reading.the-variants.{Token, Ended, NoEnd, Refused}

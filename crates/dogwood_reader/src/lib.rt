@@ -3,8 +3,8 @@ ghost use mathlib.Core.Path.{_≡_};
 ghost use Rattle.dogwood_rules.specs.Readings.{reading};
 ghost use Rattle.dogwood_reader.specs.Standing.{told, standing, placeOf, moved, onwards, held};
 ghost use Rattle.dogwood_reader.specs.Promises.{Makes, Moves, Gives};
-use dogwood_syntax::Cursor;
-use dogwood_syntax::Step;
+use dogwood_tokens::Cursor;
+use dogwood_tokens::Step;
 use utf8::Found;
 
 // What a reading gives: a token's kind, start and end; that the text has ended; where a string without end begins; a refusal's number and place.

@@ -1,7 +1,6 @@
-// The tokens of a table, seen in place: their shape, their width and their bytes. An inner crate: what its functions require, the crates above it have proved.
+// The shape of a run of a table's tokens: its ends without white space, its groups and its items.
+// An inner crate: the crates above it have established what its functions ask.
 mod run;
-mod shown;
-mod span;
 mod table;
 
 pub use run::filled;
@@ -10,8 +9,4 @@ pub use run::lead;
 pub use run::piece_end;
 pub use run::split_items;
 pub use run::trimmed;
-pub use shown::flat;
-pub use shown::put_closing;
-pub use shown::put_token;
-pub use span::measure;
 pub use table::entry_at;

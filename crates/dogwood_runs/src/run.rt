@@ -6,21 +6,18 @@ use crate::table::entry_at;
 use crate::table::opens;
 use dogwood_layout::Part;
 ghost use mathlib.Core.Path.{_≡_};
-ghost use mathlib.Core.Bool.{true};
 ghost use Prim.Native.Nat.{_*_, _<_};
 ghost use lib.ListN.{length};
-ghost use Rattle.dogwood_rules.specs.Tree.{runOf};
 ghost use Rattle.dogwood_layout.specs.View.{tokens, Ready};
 ghost use Rattle.dogwood_layout.specs.Shape.{Formed};
-ghost use Rattle.dogwood_layout.specs.Choice.{filledOf, chosen};
-ghost use Rattle.dogwood_layout.specs.Pieces.{pieceLen};
-ghost use Rattle.dogwood_layout.specs.Ends.{Whole, frontLen, backLen, trimmedOf};
-ghost use Rattle.dogwood_layout.specs.Scan.{groupLen, itemLen};
+ghost use Rattle.dogwood_layout.specs.Ends.{Whole, backLen};
+ghost use Rattle.dogwood_layout.specs.Scan.{groupLen};
+ghost use Rattle.dogwood_runs.specs.Promises.{LeadIs, TrimmedIs, FilledIs, ItemIs, PieceIs, SetIs};
 
 // How many words of white space stand at the front of a table.
 pub fn lead(table: &[u32]) -> usize
     requires { ⌜ Whole (now table) ⌝ }
-    ensures { λ r. ⌜ r ≡ 3 * frontLen (now (table .entry)) ⌝ }
+    ensures { λ r. ⌜ LeadIs (now (table .entry)) r ⌝ }
 {
     let mut i: usize = 0;
     while i < table.len() {
@@ -50,7 +47,7 @@ fn solid(table: &[u32]) -> usize
 // A table without the white space at both its ends.
 pub fn trimmed(table: &[u32]) -> Part
     requires { ⌜ Whole (now table) ⌝ }
-    ensures { λ r. ⌜ r ≡ trimmedOf (now (table .entry)) ⌝ }
+    ensures { λ r. ⌜ TrimmedIs (now (table .entry)) r ⌝ }
 {
     let a = lead(table);
     Part {
@@ -62,7 +59,7 @@ pub fn trimmed(table: &[u32]) -> Part
 // 1 for a table that has more than white space, else 0.
 pub fn filled(table: &[u32]) -> usize
     requires { ⌜ Whole (now table) ⌝ }
-    ensures { λ r. ⌜ r ≡ filledOf (now (table .entry)) ⌝ }
+    ensures { λ r. ⌜ FilledIs (now (table .entry)) r ⌝ }
 {
     if lead(table) < table.len() { 1 } else { 0 }
 }
@@ -87,7 +84,7 @@ fn group_end(text: &[u8], table: &[u32]) -> usize
 // How many words the item at the front of a table has, cut by a set.
 pub fn item_end(text: &[u8], table: &[u32], set: usize) -> usize
     requires { ⌜ Ready (now text) (now table) ⌝ }
-    ensures { λ r. ⌜ r ≡ 3 * itemLen true set 0 (tokens (now (text .entry)) (now (table .entry))) ⌝ }
+    ensures { λ r. ⌜ ItemIs (now (text .entry)) (now (table .entry)) set r ⌝ }
 {
     let mut first = true;
     let mut depth: usize = 0;
@@ -110,7 +107,7 @@ pub fn item_end(text: &[u8], table: &[u32], set: usize) -> usize
 // How many words the piece at the front of a table has: a token, or a group.
 pub fn piece_end(text: &[u8], table: &[u32]) -> usize
     requires { ⌜ Ready (now text) (now table) × (0 < length (now table)) ⌝ }
-    ensures { λ r. ⌜ r ≡ 3 * pieceLen (tokens (now (text .entry)) (now (table .entry))) ⌝ }
+    ensures { λ r. ⌜ PieceIs (now (text .entry)) (now (table .entry)) r ⌝ }
 {
     if opens(text, entry_at(table, 0)) {
         return group_end(text, table);
@@ -121,7 +118,7 @@ pub fn piece_end(text: &[u8], table: &[u32]) -> usize
 // Which separator set cuts an inside into more than one item: 0, 1, or 2 for neither.
 pub fn split_items(text: &[u8], table: &[u32]) -> usize
     requires { ⌜ Ready (now text) (now table) × Formed (tokens (now text) (now table)) ⌝ }
-    ensures { λ r. ⌜ r ≡ chosen (runOf (tokens (now (text .entry)) (now (table .entry)))) ⌝ }
+    ensures { λ r. ⌜ SetIs (now (text .entry)) (now (table .entry)) r ⌝ }
 {
     let mut set: usize = 0;
     'sets: while set < 2 {

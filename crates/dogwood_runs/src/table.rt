@@ -6,13 +6,14 @@ ghost use Prim.Native.Nat.{_+_, _<_};
 ghost use lib.ListN.{length};
 ghost use Rattle.dogwood_rules.specs.Basic.{same};
 ghost use Rattle.dogwood_rules.specs.Tree.{opener, closer};
-ghost use Rattle.dogwood_layout.specs.View.{entryAt, tokenOf, Held};
+ghost use Rattle.dogwood_layout.specs.View.{tokenOf, Held};
 ghost use Rattle.dogwood_layout.specs.Scan.{depthAfter, cutAfterToken, cutBefore};
+ghost use Rattle.dogwood_runs.specs.Promises.{EntryIs};
 
 // The entry at a word of the table.
 pub fn entry_at(table: &[u32], i: usize) -> Entry
     requires { ⌜ i + 2 < length (now table) ⌝ }
-    ensures { λ r. ⌜ r ≡ entryAt (now (table .entry)) i ⌝ }
+    ensures { λ r. ⌜ EntryIs (now (table .entry)) i r ⌝ }
 {
     Entry {
         kind: table[i],

@@ -1,15 +1,15 @@
 // The layout of a whole file: statements by their parts, and the comments around them.
-use crate::feeds::Written;
-use crate::feeds::put_feeds;
-use crate::remark::put_remarks;
 use dogwood_groups::lay_out;
 use dogwood_layout::Page;
+use dogwood_layout::Written;
+use dogwood_remarks::put_remarks;
 use dogwood_runs::filled;
 use pen::add;
 use pen::clip;
+use pen::put_copies;
 ghost use mathlib.Core.Path.{_≡_};
 ghost use mathlib.Core.List.{[], _++_};
-ghost use Prim.Native.Nat.{_*_, _≤_};
+ghost use Prim.Native.Nat.{_*_};
 ghost use lib.ListN.{length};
 ghost use Rattle.pen.specs.Over.{Wrote};
 ghost use Rattle.dogwood_rules.specs.Utf8.{encode};
@@ -41,7 +41,7 @@ fn until(table: &[u32], place: u32) -> usize
 
 // Writes the LFs that are due and a part's layout, or nothing if it is white space.
 fn lay_part(out: &mut [u8], text: &[u8], table: &[u32], page: Page, feeds: usize) -> Written
-    requires { ⌜ Ready (now text) (now table) × Part (tokens (now text) (now table)) × Bounded page 0 (length (now table)) × (feeds ≤ 2) ⌝ }
+    requires { ⌜ Ready (now text) (now table) × Part (tokens (now text) (now table)) × Bounded page 0 (length (now table)) ⌝ }
     ensures { λ r. ⌜ Due (dueLines feeds (addLine (layout (settings page) 0 (tokens (now (text .entry)) (now (table .entry)))) [])) (linesDue feeds (addLine (layout (settings page) 0 (tokens (now (text .entry)) (now (table .entry)))) [])) (now (out .entry)) (r .count) (r .feeds) (now (out .exit)) ⌝ }
 {
     if filled(table) == 0 {
@@ -50,7 +50,7 @@ fn lay_part(out: &mut [u8], text: &[u8], table: &[u32], page: Page, feeds: usize
             feeds: feeds,
         };
     }
-    let n = put_feeds(out, feeds);
+    let n = put_copies(out, 10, feeds);
     let at = clip(n, out.len());
     Written {
         count: add(n, lay_out(&mut out[at..], text, table, page, 0)),
@@ -90,12 +90,12 @@ fn lay_next(
     page: Page,
     feeds: usize,
 ) -> usize
-    requires { ⌜ Ready (now text) (now before) × Ready (now text) (now table) × Paired (now parts) × AllParts (partsOf (pairs (now parts)) (entries (now text) (now table))) × Bounded page 0 (length (now table)) × (feeds ≤ 2) ⌝ }
+    requires { ⌜ Ready (now text) (now before) × Ready (now text) (now table) × Paired (now parts) × AllParts (partsOf (pairs (now parts)) (entries (now text) (now table))) × Bounded page 0 (length (now table)) ⌝ }
     ensures { λ r. ⌜ Wrote (now (out .entry)) (encode (dueRemarks feeds (tokens (now (text .entry)) (now (before .entry))) ++ behind (remarksDue feeds (tokens (now (text .entry)) (now (before .entry)))) (pieceText (settings page) (laid (partsOf (pairs (now (parts .entry))) (entries (now (text .entry)) (now (table .entry)))))))) r (now (out .exit)) ⌝ }
 {
     let remarks = put_remarks(out, text, before, feeds);
     let at = clip(remarks.count, out.len());
-    let a = add(remarks.count, put_feeds(&mut out[at..], remarks.feeds));
+    let a = add(remarks.count, put_copies(&mut out[at..], 10, remarks.feeds));
     let bt = clip(a, out.len());
     add(a, lay_statement(&mut out[bt..], text, table, parts, page))
 }

@@ -1,6 +1,5 @@
-// The layout of statements, comments and whole files. An inner crate: what its functions require, the crates above it have proved.
-mod feeds;
+// The layout of a statement, and of a whole file.
+// An inner crate: the crates above it have established what its functions ask.
 mod file;
-mod remark;
 
 pub use file::top_level_items;

@@ -1,10 +1,2 @@
-pub mod Bounds
-pub mod Tokens
-pub mod Onwards
-pub mod Front
-pub mod Seam
+pub mod Filling
 pub mod Promise
-pub mod Walks
-pub mod Steps
-pub mod Wide
-pub mod Scan

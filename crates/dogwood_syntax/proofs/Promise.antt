@@ -20,11 +20,12 @@ use Rattle.utf8.specs.declared.Found.the-variants.{At, Nothing}
 use Rattle.utf8.proofs.Mark.{mark-inside, length-text}
 use Rattle.dogwood_syntax.specs.declared.tokenizing.Tokenized.{Tokenized}
 use Rattle.dogwood_syntax.specs.declared.tokenizing.Tokenized.the-variants.{Done, Unended, Small}
-use Rattle.dogwood_syntax.specs.Tokens.{openFrom, openAt, filled, answer, tableAfter}
-use Rattle.dogwood_syntax.specs.Cursor.{tokensAt}
+use Rattle.dogwood_tokens.specs.Tokens.{openFrom, openAt}
+use Rattle.dogwood_syntax.specs.Answers.{filled, answer, tableAfter}
+use Rattle.dogwood_tokens.specs.Cursor.{tokensAt}
 use Rattle.dogwood_syntax.specs.Numbers.{number, value}
-use Rattle.dogwood_syntax.proofs.Tokens.{answer-open, answer-small, answer-done, table-of}
-use Rattle.dogwood_syntax.proofs.Seam.{open-seam, placed-seam}
+use Rattle.dogwood_syntax.proofs.Filling.{answer-open, answer-small, answer-done, table-of}
+use Rattle.dogwood_tokens.proofs.Seam.{open-seam, placed-seam}
 
 -- an answer of the rules, held against what was answered
 keeps : (s t : List ℕ) (a : Alone) (n v : ℕ) (t′ : List ℕ) → tokenised s (length t) ≡ a → n ≡ a .number → v ≡ a .value → t′ ≡ over (a .table) t → Tokenises s t n v t′

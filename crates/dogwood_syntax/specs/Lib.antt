@@ -1,6 +1,3 @@
-pub mod Token
-pub mod Scan
-pub mod Cursor
-pub mod Tokens
+pub mod Answers
 pub mod Table
 pub mod Numbers

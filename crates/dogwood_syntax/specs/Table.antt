@@ -9,8 +9,8 @@ use lib.Seq.{sets}
 use Rattle.dogwood_rules.specs.Token.{wordsOf}
 use Rattle.utf8.specs.declared.Found.{Found}
 use Rattle.utf8.specs.declared.Found.the-variants.{At, Nothing}
-use Rattle.dogwood_syntax.specs.declared.cursor.Token.{Token}
-use Rattle.dogwood_syntax.specs.Cursor.{tokensAt}
+use Rattle.dogwood_tokens.specs.declared.cursor.Token.{Token}
+use Rattle.dogwood_tokens.specs.Cursor.{tokensAt}
 
 -- the record of a token
 abbrev pub recordOf : Token → List ℕ

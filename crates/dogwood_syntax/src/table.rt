@@ -6,11 +6,11 @@ ghost use lib.ListN.{length};
 ghost use lib.Seq.{sets};
 ghost use mathlib.Core.Bool.{cond};
 ghost use Rattle.dogwood_rules.specs.Token.{wordsOf};
-ghost use Rattle.dogwood_syntax.specs.Cursor.{tokensAt};
+ghost use Rattle.dogwood_tokens.specs.Cursor.{tokensAt};
 ghost use Rattle.dogwood_syntax.specs.Table.{recordOf, Filled, shortOf};
-use crate::cursor::Cursor;
-use crate::cursor::Step;
-use crate::cursor::Token;
+use dogwood_tokens::Cursor;
+use dogwood_tokens::Step;
+use dogwood_tokens::Token;
 use utf8::Found;
 
 // The words of a record.

@@ -4,11 +4,11 @@ ghost use Prim.Native.Nat.{_≤_};
 ghost use lib.ListN.{length};
 ghost use Rattle.dogwood_rules.specs.Contracts.{Tokenises};
 ghost use Rattle.dogwood_syntax.specs.Numbers.{number, value};
-ghost use Rattle.dogwood_syntax.specs.Tokens.{answer, tableAfter};
-use crate::open::first_open;
+ghost use Rattle.dogwood_syntax.specs.Answers.{answer, tableAfter};
 use crate::table::RECORD;
 use crate::table::fill;
 use crate::table::shortage;
+use dogwood_tokens::first_open;
 use utf8::Found;
 
 // What tokenising answers.

@@ -2,3 +2,4 @@ pub mod Bools
 pub mod RowSteps
 pub mod GapSteps
 pub mod Words
+pub mod Founds

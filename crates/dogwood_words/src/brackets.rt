@@ -1,10 +1,10 @@
 // Brackets: a token is one by its kind and the byte at its start.
-ghost use mathlib.Core.Path.{_≡_};
 ghost use Rattle.dogwood_words.specs.Brackets.{opening, closing};
+ghost use Rattle.dogwood_words.specs.Promises.{BracketIs};
 
 // One of ( [ {.
 pub fn opens(kind: u32, first: u8) -> bool
-    ensures { λ r. ⌜ r ≡ opening kind first ⌝ }
+    ensures { λ r. ⌜ BracketIs opening kind first r ⌝ }
 {
     if kind != 5 {
         return false;
@@ -14,7 +14,7 @@ pub fn opens(kind: u32, first: u8) -> bool
 
 // One of ) ] }.
 pub fn closes(kind: u32, first: u8) -> bool
-    ensures { λ r. ⌜ r ≡ closing kind first ⌝ }
+    ensures { λ r. ⌜ BracketIs closing kind first r ⌝ }
 {
     if kind != 5 {
         return false;

@@ -1,4 +1,4 @@
-// The words of a token table and of an outline, read in place: brackets, rows, walks over rows, records.
+// The words of a token table and of an outline, read in place: rows, brackets, walks over rows, records.
 mod brackets;
 mod records;
 mod rows;

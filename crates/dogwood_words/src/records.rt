@@ -1,6 +1,5 @@
 // The records of an outline. Any words get an answer: a number of parts is held against the words that are left before it is doubled.
-ghost use mathlib.Core.Path.{_≡_};
-ghost use Rattle.dogwood_words.specs.Records.{recordAt};
+ghost use Rattle.dogwood_words.specs.Promises.{RecordIs};
 
 // A statement's bounds in the text, how many parts it has, and the word behind its record.
 pub struct Record {
@@ -18,7 +17,7 @@ pub enum Reading {
 
 // The record whose words begin at i.
 pub fn record_at(outline: &[u32], i: usize) -> Reading
-    ensures { λ r. ⌜ r ≡ recordAt (now (outline .entry)) i ⌝ }
+    ensures { λ r. ⌜ RecordIs (now (outline .entry)) i r ⌝ }
 {
     if outline.len() <= i {
         return Reading::Short;

@@ -1,7 +1,5 @@
 // A token table read row by row. Any words get an answer: the table ends where a row is not whole.
-ghost use mathlib.Core.Path.{_≡_};
-ghost use lib.ListN.{drop};
-ghost use Rattle.dogwood_words.specs.Rows.{rowOf, skipIn};
+ghost use Rattle.dogwood_words.specs.Promises.{RowIs, SkipIs};
 
 // A token's kind and where it starts, or no token.
 pub enum Row {
@@ -11,7 +9,7 @@ pub enum Row {
 
 // The row whose words begin at i.
 pub fn row_at(table: &[u32], i: usize) -> Row
-    ensures { λ r. ⌜ r ≡ rowOf (drop i (now (table .entry))) ⌝ }
+    ensures { λ r. ⌜ RowIs (now (table .entry)) i r ⌝ }
 {
     if table.len() <= i {
         return Row::Ended;
@@ -24,7 +22,7 @@ pub fn row_at(table: &[u32], i: usize) -> Row
 
 // The first word of the first token from a word on that starts at n or behind it.
 pub fn skip(table: &[u32], from: usize, n: usize) -> usize
-    ensures { λ r. ⌜ r ≡ skipIn n from (drop from (now (table .entry))) ⌝ }
+    ensures { λ r. ⌜ SkipIs (now (table .entry)) from n r ⌝ }
 {
     let mut i = from;
     loop {

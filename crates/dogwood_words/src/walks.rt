@@ -1,9 +1,5 @@
 // Walks over the tokens of a table up to a place, which must be a token's start or the text's end.
-ghost use mathlib.Core.Path.{_≡_};
-ghost use mathlib.Core.Bool.{false};
-ghost use lib.ListN.{drop};
-ghost use Rattle.dogwood_words.specs.Search.{foundOf};
-ghost use Rattle.dogwood_words.specs.Rows.{gapIn, partIn, walkedOf};
+ghost use Rattle.dogwood_words.specs.Promises.{GapIs, PartIs};
 use crate::brackets::closes;
 use crate::brackets::opens;
 use crate::rows::Row;
@@ -12,7 +8,7 @@ use utf8::Found;
 
 // Where n stands in a table, if only white space and comments stand between a word and it.
 pub fn gap(table: &[u32], from: usize, end: usize, n: usize) -> Found
-    ensures { λ r. ⌜ r ≡ foundOf (gapIn end n from (drop from (now (table .entry)))) ⌝ }
+    ensures { λ r. ⌜ GapIs (now (table .entry)) from end n r ⌝ }
 {
     let mut i = from;
     loop {
@@ -43,7 +39,7 @@ pub enum Walked {
 
 // Where n stands in a table, if brackets balance between a word and it.
 pub fn part(text: &[u8], table: &[u32], from: usize, n: usize) -> Walked
-    ensures { λ r. ⌜ r ≡ walkedOf (partIn (now (text .entry)) n 0 false from (drop from (now (table .entry)))) ⌝ }
+    ensures { λ r. ⌜ PartIs (now (text .entry)) (now (table .entry)) from n r ⌝ }
 {
     let mut i = from;
     let mut depth: usize = 0;

@@ -10,17 +10,17 @@ put-requires c κs = search needs
 clip-requires : tie.Need-clip-requires
 clip-requires c κs = search needs
 
-sub-put-spaces : tie.Need-sub-put-spaces
-sub-put-spaces c = search needs
+sub-put-copies : tie.Need-sub-put-copies
+sub-put-copies c = search needs
 
-part-put-spaces-start : tie.Need-part-put-spaces-start
-part-put-spaces-start c = search needs
+part-put-copies-start : tie.Need-part-put-copies-start
+part-put-copies-start c = search needs
 
-part-put-spaces-end : tie.Need-part-put-spaces-end
-part-put-spaces-end c = search needs
+part-put-copies-end : tie.Need-part-put-copies-end
+part-put-copies-end c = search needs
 
-put-spaces-requires : tie.Need-put-spaces-requires
-put-spaces-requires c κs = search needs
+put-copies-requires : tie.Need-put-copies-requires
+put-copies-requires c κs = search needs
 
 add-requires : tie.Need-add-requires
 add-requires c κs = search needs
@@ -31,7 +31,7 @@ same-length c = search needs
 returns : tie.Need-returns
 returns c =
     let p = c .before .before .before .before .before in
-    wrote-then (p .before .before .before .put .ensures) (p .clip .ensures .place) (omega arith) (c .before .before .before .put-spaces .ensures) (c .add .ensures .sum)
+    wrote-then (p .before .before .before .put .ensures) (p .clip .ensures .place) (omega arith) (c .before .before .before .put-copies .ensures) (c .add .ensures .sum)
 
 pub put-line-spec : {M : Type 1} → statement M
 put-line-spec =
@@ -39,10 +39,10 @@ put-line-spec =
     (tie.spec
     put-requires
     clip-requires
-    sub-put-spaces
-    part-put-spaces-start
-    part-put-spaces-end
-    put-spaces-requires
+    sub-put-copies
+    part-put-copies-start
+    part-put-copies-end
+    put-copies-requires
     add-requires
     same-length
     returns)

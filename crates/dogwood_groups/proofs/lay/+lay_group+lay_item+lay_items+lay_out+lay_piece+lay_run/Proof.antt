@@ -40,13 +40,13 @@ use Rattle.dogwood_groups.proofs.lay.lay_run.Kinds as lay-run-kinds
 use Rattle.dogwood_groups.proofs.lay.+lay_group+lay_item+lay_items+lay_out+lay_piece+lay_run.Lts-lay_run as lay-run-lts
 use Rattle.dogwood_runs.proofs.entry_at.Reads as entry-at-reads
 use Rattle.dogwood_runs.proofs.filled.Reads as filled-reads
-use Rattle.dogwood_runs.proofs.flat.Reads as flat-reads
+use Rattle.dogwood_flat.proofs.flat.Reads as flat-reads
 use Rattle.dogwood_runs.proofs.item_end.Reads as item-end-reads
 use Rattle.dogwood_runs.proofs.lead.Reads as lead-reads
-use Rattle.dogwood_runs.proofs.measure.Reads as measure-reads
+use Rattle.dogwood_flat.proofs.measure.Reads as measure-reads
 use Rattle.dogwood_runs.proofs.piece_end.Reads as piece-end-reads
-use Rattle.dogwood_runs.proofs.put_closing.Reads as put-closing-reads
-use Rattle.dogwood_runs.proofs.put_token.Reads as put-token-reads
+use Rattle.dogwood_flat.proofs.put_closing.Reads as put-closing-reads
+use Rattle.dogwood_flat.proofs.put_token.Reads as put-token-reads
 use Rattle.dogwood_runs.proofs.split_items.Reads as split-items-reads
 use Rattle.dogwood_runs.proofs.trimmed.Reads as trimmed-reads
 use Rattle.pen.proofs.add.Reads as add-reads

@@ -3,8 +3,7 @@ use Prim.Native.Nat.{_≤_}
 use native.Mathlib.Omega.{arith}
 use borrow.Author.Needs.{needs}
 use Rattle.pen.proofs.Laws.{wrote-then, wrote-same, wrote-length}
-use Rattle.dogwood_layout.proofs.Dues.{remarks-few, next-bytes}
-use Rattle.dogwood_layout.specs.View.{tokens}
+use Rattle.dogwood_layout.proofs.Dues.{next-bytes}
 use Rattle.dogwood_statements.proofs.file.lay_next.Statement.{statement}
 use Rattle.dogwood_statements.proofs.file.lay_next.Tie as tie
 
@@ -14,21 +13,17 @@ put-remarks-requires c κs = search needs
 clip-requires : tie.Need-clip-requires
 clip-requires c κs = search needs
 
-sub-put-feeds : tie.Need-sub-put-feeds
-sub-put-feeds c = search needs
+sub-put-copies : tie.Need-sub-put-copies
+sub-put-copies c = search needs
 
-part-put-feeds-start : tie.Need-part-put-feeds-start
-part-put-feeds-start c = search needs
+part-put-copies-start : tie.Need-part-put-copies-start
+part-put-copies-start c = search needs
 
-part-put-feeds-end : tie.Need-part-put-feeds-end
-part-put-feeds-end c = search needs
+part-put-copies-end : tie.Need-part-put-copies-end
+part-put-copies-end c = search needs
 
-put-feeds-requires : tie.Need-put-feeds-requires
-put-feeds-requires c κs =
-    let start = c .before .before .before .before .before .before .before .before .before .before .before in
-    let due = c .before .before .before .before .put-remarks .ensures .due in
-    let few = remarks-few (start .args .feeds) (tokens (start .args .text .now) (start .args .before .now)) (start .pre .5) in
-    omega arith
+put-copies-requires : tie.Need-put-copies-requires
+put-copies-requires c κs = search needs
 
 add-requires : tie.Need-add-requires
 add-requires c κs = search needs
@@ -60,7 +55,7 @@ returns c =
     let remarks = c .before .before .before .before .before .before .before .before .before .before .before .before .before .before .put-remarks .ensures in
     let good = start .good in
     let first = wrote-length (remarks .wrote) in
-    let feeds = wrote-then (remarks .wrote) (c .before .before .before .before .before .before .before .before .before .before .before .clip .ensures .place) (omega arith) (c .before .before .before .before .before .before .before .before .before .put-feeds .ensures) (c .before .before .before .before .before .before .add .ensures .sum) in
+    let feeds = wrote-then (remarks .wrote) (c .before .before .before .before .before .before .before .before .before .before .before .clip .ensures .place) (omega arith) (c .before .before .before .before .before .before .before .before .before .put-copies .ensures) (c .before .before .before .before .before .before .add .ensures .sum) in
     let both = wrote-length feeds in
     wrote-same (next-bytes _ _ (remarks .due)) (wrote-then feeds (c .before .before .before .before .before .clip2 .ensures .place) (omega arith) (c .before .before .before .lay-statement .ensures) (c .add2 .ensures .sum))
 
@@ -70,10 +65,10 @@ lay-next-spec =
     (tie.spec
     put-remarks-requires
     clip-requires
-    sub-put-feeds
-    part-put-feeds-start
-    part-put-feeds-end
-    put-feeds-requires
+    sub-put-copies
+    part-put-copies-start
+    part-put-copies-end
+    put-copies-requires
     add-requires
     clip-requires-2
     sub-lay-statement

@@ -14,8 +14,8 @@ filled-requires c κs = holds-whole (c .before .before .before .args .text .now)
 returns : tie.Need-returns
 returns c = part-none _ _ (c .before .before .before .before .before .pre .0 .holds) _ (c .before .before .before .before .before .pre .1) (c .before .filled .ensures) _ (c .if1 .taken) _
 
-put-feeds-requires : tie.Need-put-feeds-requires
-put-feeds-requires c κs = search needs
+put-copies-requires : tie.Need-put-copies-requires
+put-copies-requires c κs = search needs
 
 clip-requires : tie.Need-clip-requires
 clip-requires c κs = search needs
@@ -41,7 +41,7 @@ same-length c = search needs
 returns-2 : tie.Need-returns-2
 returns-2 c =
     let start = c .before .before .before .before .before .before .before .before .before .before .before .before .before .before .before in
-    let feeds = c .before .before .before .before .before .before .before .before .put-feeds .ensures in
+    let feeds = c .before .before .before .before .before .before .before .before .put-copies .ensures in
     let room = wrote-length feeds in
     let good = start .good in
     let laid = laid-wrote (start .args .page) 0 _ _ (start .pre .0) (formed _ (start .pre .1 .sound) (start .pre .1 .balance)) (start .pre .2) (c .before .before .before .lay-out .ensures) in
@@ -54,7 +54,7 @@ lay-part-spec =
     (tie.spec
     filled-requires
     returns
-    put-feeds-requires
+    put-copies-requires
     clip-requires
     sub-lay-out
     part-lay-out-start

@@ -172,7 +172,6 @@ lay-part-requires c κs =
       part-ready (settings (start .args .page)) _ _ _ a h u v (start .pre .0),
       part-here (settings (start .args .page)) _ _ _ a h u v,
       part-bounded (settings (start .args .page)) _ _ _ a h u v (start .pre .3),
-      a .few,
     )
 
 add-requires : tie.Need-add-requires Inv-loop μ-loop

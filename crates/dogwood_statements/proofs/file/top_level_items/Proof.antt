@@ -301,7 +301,6 @@ lay-next-requires c κs =
       next-paired S _ _ _ a s u v,
       next-parts S _ _ _ a s u v,
       next-bounded S _ _ _ a s u v (start .pre .3),
-      a .few,
     )
 
 add-requires : tie.Need-add-requires Inv-loop μ-loop
@@ -358,7 +357,7 @@ part-put-remarks-end-2 c =
 put-remarks-requires : tie.Need-put-remarks-requires Inv-loop μ-loop
 put-remarks-requires c κs =
     let a = c .before .before .before .before .loop .inv .1 in
-    (ready-rest (c .before .before .before .before .before .before .before .before .before .args .text .now) (c .before .before .before .before .before .before .before .before .before .args .table .now) (c .before .before .before .before .loop .i) (c .before .before .before .before .before .before .before .before .before .pre .0) (a .holds) .holds, a .few)
+    ready-rest (c .before .before .before .before .before .before .before .before .before .args .text .now) (c .before .before .before .before .before .before .before .before .before .args .table .now) (c .before .before .before .before .loop .i) (c .before .before .before .before .before .before .before .before .before .pre .0) (a .holds) .holds
 
 add-requires-2 : tie.Need-add-requires-2 Inv-loop μ-loop
 add-requires-2 c κs = search needs

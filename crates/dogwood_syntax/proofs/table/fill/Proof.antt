@@ -8,9 +8,9 @@ use lib.Dec.{leb}
 use mathlib.Core.List.{List, [], _∷_}
 use Rattle.dogwood_rules.specs.Token.{Placed, wordsOf}
 use borrow.Author.Needs.{needs}
-use Rattle.dogwood_syntax.specs.Cursor.{tokensAt}
-use Rattle.dogwood_syntax.proofs.Steps.{next-onward, next-token, next-bounds, words-next, next-ended, next-unended}
-use Rattle.dogwood_syntax.proofs.Tokens.{put-on, put-length, length-words}
+use Rattle.dogwood_tokens.specs.Cursor.{tokensAt}
+use Rattle.dogwood_tokens.proofs.Steps.{next-onward, next-token, next-bounds, words-next, next-ended, next-unended}
+use Rattle.dogwood_syntax.proofs.Filling.{put-on, put-length, length-words}
 use Rattle.dogwood_syntax.proofs.table.fill.Statement.{statement}
 use Rattle.dogwood_syntax.proofs.table.fill.Tie as tie
 

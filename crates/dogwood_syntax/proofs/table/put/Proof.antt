@@ -3,7 +3,7 @@ use mathlib.Core.List.{[]}
 use native.Mathlib.Omega.{arith}
 use borrow.Author.Tests.{le-leb, lt-leb}
 use lib.ListN.{length, length-set}
-use Rattle.dogwood_syntax.proofs.Tokens.{stored}
+use Rattle.dogwood_syntax.proofs.Filling.{stored}
 use borrow.Author.Needs.{needs}
 use Rattle.dogwood_syntax.proofs.table.put.Statement.{statement}
 use Rattle.dogwood_syntax.proofs.table.put.Tie as tie

@@ -1,10 +1,10 @@
 use native.Mathlib.Omega.{arith}
 use borrow.Author.Tests.{lt-ltb, le-ltb}
 use lib.ListN.{length}
-use Rattle.dogwood_syntax.specs.Cursor.{tokensAt}
+use Rattle.dogwood_tokens.specs.Cursor.{tokensAt}
 use Rattle.dogwood_syntax.specs.Table.{shortOf}
-use Rattle.dogwood_syntax.proofs.Seam.{count-all}
-use Rattle.dogwood_syntax.proofs.Tokens.{tokens-few}
+use Rattle.dogwood_tokens.proofs.Seam.{count-all}
+use Rattle.dogwood_tokens.proofs.Tokens.{tokens-few}
 use borrow.Author.Needs.{needs}
 use Rattle.dogwood_syntax.proofs.table.shortage.Statement.{statement}
 use Rattle.dogwood_syntax.proofs.table.shortage.Tie as tie

@@ -6,7 +6,7 @@ use lib.ListN.{length}
 use Rattle.dogwood_rules.specs.Utf8.{decode, textOf}
 use Rattle.utf8.specs.Told.{leftAt}
 use Rattle.utf8.proofs.Mark.{mark-inside, length-text, text-of}
-use Rattle.dogwood_syntax.specs.Tokens.{answer, tableAfter}
+use Rattle.dogwood_syntax.specs.Answers.{answer, tableAfter}
 use Rattle.dogwood_syntax.proofs.Promise.{long-kept, bad-kept, text-kept, left-inside}
 use borrow.Author.Needs.{needs}
 use Rattle.dogwood_syntax.proofs.tokenizing.tokenize.Statement.{statement}

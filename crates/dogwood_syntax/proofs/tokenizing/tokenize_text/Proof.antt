@@ -3,8 +3,8 @@ use mathlib.Core.Path.{sym, _∙_}
 use native.Mathlib.Omega.{arith}
 use lib.ListN.{length}
 use Rattle.dogwood_rules.specs.Token.{wordsOf}
-use Rattle.dogwood_syntax.specs.Cursor.{tokensAt}
-use Rattle.dogwood_syntax.proofs.Tokens.{short-some, short-none, length-words, sets-front, answer-open, answer-small, answer-done, table-of}
+use Rattle.dogwood_tokens.specs.Cursor.{tokensAt}
+use Rattle.dogwood_syntax.proofs.Filling.{short-some, short-none, length-words, sets-front, answer-open, answer-small, answer-done, table-of}
 use borrow.Author.Needs.{needs}
 use Rattle.dogwood_syntax.proofs.tokenizing.tokenize_text.Statement.{statement}
 use Rattle.dogwood_syntax.proofs.tokenizing.tokenize_text.Tie as tie

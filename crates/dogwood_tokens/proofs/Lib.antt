@@ -1,0 +1,9 @@
+pub mod Bounds
+pub mod Tokens
+pub mod Onwards
+pub mod Front
+pub mod Seam
+pub mod Walks
+pub mod Steps
+pub mod Wide
+pub mod Scan

@@ -1,0 +1,5 @@
+pub mod Token
+pub mod Cursor
+pub mod Tokens
+pub mod Scan
+pub mod Promises
