@@ -2,20 +2,18 @@
 use mathlib.Core.Path.{_≡_, refl, sym, _∙_, ap, subst}
 use mathlib.Core.Bool.{Bool, true, false}
 use mathlib.Core.List.{List, [], _++_}
-use mathlib.Core.Option.{none}
-use Prim.Native.Nat.{ℕ, _-_, _≤_, _<_}
+use Prim.Native.Nat.{ℕ, _-_, _≤_}
 use native.Mathlib.Omega.{arith}
 use lib.Dec.{ltb}
 use lib.ListN.{length}
 use borrow.Author.Tests.{ltb-true, ltb-false}
 use Rattle.dogwood_rules.specs.Basic.{if_then_else_}
 use Rattle.dogwood_rules.specs.Utf8.{encode, decode, markOf, textOf}
-use Rattle.dogwood_rules.specs.Token.{Placed, tokenise, wordsOf}
+use Rattle.dogwood_rules.specs.Token.{Placed, wordsOf}
 use Rattle.dogwood_rules.specs.Layout.{house}
 use Rattle.dogwood_rules.specs.Source.{Source, tooLong, notUtf8, unended, cutInto, sourceOf}
-use Rattle.dogwood_rules.specs.Outline.{statements, fits}
+use Rattle.dogwood_rules.specs.Outline.{statements}
 use Rattle.dogwood_rules.specs.File.{pieces, joinPieces}
-use Rattle.dogwood_rules.specs.Searches.{firstComment}
 use Rattle.dogwood_rules.proofs.Files.{AllSane}
 use Rattle.dogwood_rules.proofs.Sources.{source-long}
 use Rattle.dogwood_rules.proofs.Wholes.{Whole, source-whole}

@@ -1,5 +1,5 @@
 -- A table that has the words of a text's tokens: what is judged by it is what the rules answer.
-use mathlib.Core.Path.{_≡_, refl, sym, _∙_, ap, subst}
+use mathlib.Core.Path.{_≡_, refl, sym, _∙_, ap}
 use mathlib.Core.Bool.{Bool, true, false, _&&_}
 use mathlib.Core.List.{List, [], _∷_}
 use mathlib.Core.Option.{Option, none, some}
@@ -9,16 +9,16 @@ use lib.Dec.{eqb}
 use lib.ListN.{length, getD}
 use Rattle.dogwood_rules.specs.Basic.{if_then_else_}
 use Rattle.dogwood_rules.specs.Token.{Placed, kindNumber, wordsOf}
-use Rattle.dogwood_rules.specs.Outline.{statements, fits, upTo}
+use Rattle.dogwood_rules.specs.Outline.{statements, fits}
 use Rattle.dogwood_rules.specs.File.{Piece, pieces}
 use Rattle.dogwood_rules.specs.Searches.{commentIn, firstComment, deepOpener, tooDeep}
 use Rattle.dogwood_tokens.specs.Cursor.{tokensAt}
 use Rattle.dogwood_words.specs.Brackets.{opening, closing}
 use Rattle.dogwood_outline.specs.Judges.{JudgesIn}
-use Rattle.dogwood_outline.specs.Pass.{placedIn, outlinePass, passes}
+use Rattle.dogwood_outline.specs.Pass.{placedIn, passes}
 use Rattle.dogwood_words.specs.Search.{absent}
-use Rattle.dogwood_outline.specs.Table.{statementsIn, fitsIn, judgedIn}
-use Rattle.dogwood_searches.specs.Searches.{commentBefore, deepIn, firstCommentIn}
+use Rattle.dogwood_outline.specs.Table.{fitsIn, judgedIn}
+use Rattle.dogwood_searches.specs.Searches.{commentBefore, firstCommentIn}
 use Rattle.dogwood_outline.specs.Verdicts.{nested, filled, commented, judged, Judges}
 use Rattle.dogwood_outline.proofs.Deep.{deep-law}
 use Rattle.dogwood_outline.proofs.NoPiece.{pieces-none, pieces-some}
@@ -26,7 +26,7 @@ use Rattle.dogwood_outline.proofs.Spans.{below-all}
 use Rattle.dogwood_outline.proofs.Symbols.{opens-at, closes-at}
 use Rattle.dogwood_outline.proofs.Tabled.{Bracketed, bracketed-end, bracketed-more, statements-words, comment-words, first-comment-words, deep-words}
 use Rattle.dogwood_outline.proofs.Texts.{text-below, fit-law, tokens-start}
-use Rattle.dogwood_outline.proofs.Took.{Took, Pace, pace-on, pace-off, pace}
+use Rattle.dogwood_outline.proofs.Took.{Pace, pace-on, pace-off, pace}
 
 bracketed-at : (s : List ℕ) (i : ℕ) (ps : List Placed) → tokensAt s i ≡ ps → Bracketed s ps
 bracketed-at s i [] w = bracketed-end

@@ -3,7 +3,7 @@ use mathlib.Core.Path.{_≡_, refl, sym, _∙_, ap, subst}
 use mathlib.Core.Bool.{Bool, true, false, not, _&&_, _||_}
 use mathlib.Core.List.{List, [], _∷_}
 use mathlib.Core.Option.{Option, none, some}
-use Prim.Native.Nat.{ℕ, zero, suc, _+_, _-_, _*_}
+use Prim.Native.Nat.{ℕ, suc, _+_, _-_, _*_}
 use native.Mathlib.Omega.{arith}
 use lib.Dec.{leb, ltb, eqb}
 use lib.ListN.{length, getD, drop}
@@ -12,10 +12,10 @@ use borrow.Author.Tests.{eqb-true, eqb-false, lt-ltb, le-ltb}
 use Rattle.dogwood_rules.specs.Basic.{if_then_else_, every, some?}
 use Rattle.dogwood_rules.specs.Token.{Token, Kind, Whitespace, Comment, String, Identifier, Number, Symbol, Other, Placed, kindNumber, tokens, wordsOf}
 use Rattle.dogwood_rules.specs.Tree.{blank, comment, isWhitespace, isComment, opener, closer}
-use Rattle.dogwood_rules.specs.Outline.{Span, Statement, statements, upTo, from, plain, balanced, kindOk, within, beyond}
+use Rattle.dogwood_rules.specs.Outline.{Span, Statement, upTo, from, plain, balanced, kindOk, within, beyond}
 use Rattle.dogwood_rules.specs.Searches.{commentIn, orElse, firstComment, tooDeep}
 use Rattle.dogwood_words.specs.Brackets.{opening, closing}
-use Rattle.dogwood_outline.specs.Pass.{quiet, spoken, here, stands, gap, part, partsPass, statementPass, outlinePass}
+use Rattle.dogwood_outline.specs.Pass.{quiet, spoken, here, gap, part, partsPass, statementPass, outlinePass}
 use Rattle.dogwood_words.specs.Search.{absent}
 use Rattle.dogwood_words.specs.Rows.{skipIn, gapIn, partIn}
 use Rattle.dogwood_outline.specs.Table.{partsIn, statementsIn}

@@ -1,5 +1,5 @@
 -- The test of fit as one pass over the tokens, hand in hand with the outline. How the code works; what it means stands in dogwood_rules.
-use mathlib.Core.Bool.{Bool, true, false, not, _&&_, _||_}
+use mathlib.Core.Bool.{Bool, false, not, _&&_, _||_}
 use mathlib.Core.List.{List, [], _∷_}
 use Prim.Native.Nat.{ℕ}
 use lib.Dec.{ltb, eqb}

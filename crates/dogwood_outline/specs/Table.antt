@@ -1,6 +1,6 @@
 -- The test of fit as a walk over the words of a token table, and the verdict by it and by the searches. How the code works, on any words; what it means stands in dogwood_rules, and
 -- proofs/Tabled ties the two for the words of a text's tokens.
-use mathlib.Core.Bool.{Bool, true, false, not, _&&_, _||_}
+use mathlib.Core.Bool.{Bool, false, not, _&&_, _||_}
 use mathlib.Core.List.{List, [], _∷_}
 use mathlib.Core.Option.{none, some}
 use Prim.Native.Nat.{ℕ}

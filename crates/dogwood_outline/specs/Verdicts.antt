@@ -1,5 +1,5 @@
 -- What `judge` promises: numbers 4, 2, 3 and 5 of document 01 in this order, else 0.
-use mathlib.Core.Path.{_≡_, refl, sym, _∙_}
+use mathlib.Core.Path.{_≡_, refl}
 use mathlib.Core.List.{List, [], _∷_}
 use mathlib.Core.Option.{Option, none, some}
 use Prim.Native.Nat.{ℕ}

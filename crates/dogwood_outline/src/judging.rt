@@ -1,5 +1,4 @@
 // Answers 4, 2, 3 and 5, in this order, of a text that stands behind its mark and of its tokens.
-ghost use mathlib.Core.Path.{_≡_};
 ghost use Rattle.dogwood_outline.specs.Verdicts.{number, place};
 ghost use Rattle.dogwood_outline.specs.Judges.{JudgesIn};
 use crate::fitting::fit;

@@ -1,11 +1,10 @@
 // The token table: a record of words for each token.
 ghost use mathlib.Core.Path.{_≡_};
-ghost use Prim.Native.Nat.{_+_, _*_, _≤_, _<_, _^_};
+ghost use Prim.Native.Nat.{_+_, _*_, _<_, _^_};
 ghost use lib.Dec.{leb};
 ghost use lib.ListN.{length};
 ghost use lib.Seq.{sets};
 ghost use mathlib.Core.Bool.{cond};
-ghost use Rattle.dogwood_rules.specs.Token.{wordsOf};
 ghost use Rattle.dogwood_tokens.specs.Cursor.{tokensAt};
 ghost use Rattle.dogwood_syntax.specs.Table.{recordOf, Filled, shortOf};
 use dogwood_tokens::Cursor;

@@ -1,15 +1,15 @@
 -- The walk over a gap and the walk over a part, by the rows' steps.
-use mathlib.Core.Path.{_≡_, refl, sym, _∙_, ap}
+use mathlib.Core.Path.{_≡_, refl, _∙_, ap}
 use mathlib.Core.Bool.{Bool, true, false, _&&_, _||_}
-use mathlib.Core.List.{List, [], _∷_}
-use mathlib.Core.Option.{Option, none, some}
+use mathlib.Core.List.{List, _∷_}
+use mathlib.Core.Option.{none, some}
 use Prim.Native.Nat.{ℕ, suc, _+_, _-_, _<_, _≤_}
 use native.Mathlib.Omega.{arith}
-use lib.Dec.{leb, ltb, eqb}
+use lib.Dec.{leb, eqb}
 use lib.ListN.{length, getD, drop}
 use borrow.Author.Tests.{lt-ltb, le-ltb, lt-leb, le-leb, eq-eqb, ne-eqb}
 use Rattle.dogwood_rules.specs.Basic.{if_then_else_}
-use Rattle.dogwood_words.specs.declared.rows.Row.the-variants.{Token, Ended}
+use Rattle.dogwood_words.specs.declared.rows.Row.the-variants.{Ended}
 use Rattle.dogwood_words.specs.Brackets.{opening, closing}
 use Rattle.dogwood_words.specs.Rows.{rowOf, gapIn, partIn}
 use Rattle.dogwood_words.proofs.RowSteps.{few, Stands, row-ended}

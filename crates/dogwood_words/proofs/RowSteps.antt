@@ -9,7 +9,6 @@ use lib.Dec.{leb}
 use lib.ListN.{length, getD, drop, length-drop}
 use lib.Seq.{drop-cons}
 use borrow.Author.Tests.{leb-true, leb-false, lt-ltb, le-ltb}
-use Rattle.dogwood_rules.specs.Basic.{if_then_else_}
 use Rattle.dogwood_words.specs.declared.rows.Row.{Row}
 use Rattle.dogwood_words.specs.declared.rows.Row.the-variants.{Token, Ended}
 use Rattle.dogwood_words.specs.Rows.{rowOf, skipIn}

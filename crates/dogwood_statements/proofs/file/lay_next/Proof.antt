@@ -1,5 +1,3 @@
-use mathlib.Core.Path.{sym}
-use Prim.Native.Nat.{_≤_}
 use native.Mathlib.Omega.{arith}
 use borrow.Author.Needs.{needs}
 use Rattle.pen.proofs.Laws.{wrote-then, wrote-same, wrote-length}
