@@ -20,9 +20,8 @@ use Rattle.dogwood_rules.proofs.Files.{AllSane}
 use Rattle.utf8.proofs.Mark.{mark-inside, text-of}
 use Rattle.dogwood_layout.specs.declared.Page.{Page}
 use Rattle.dogwood_layout.specs.View.{Ready}
-use Rattle.dogwood_layout.specs.Pieces.{settings, Bounded}
+use Rattle.dogwood_layout.specs.Pieces.{settings, Bounded, WroteText}
 use Rattle.dogwood_layout.specs.Places.{entries}
-use Rattle.dogwood_layout.specs.Feeds.{LaidFile}
 use Rattle.dogwood_formatter.specs.Offers.{Offered}
 use Rattle.dogwood_layout.proofs.Totals.{file-bound}
 
@@ -81,7 +80,7 @@ module _ (source outline ws : List ℕ) (p : Page) {mark : ℕ} (e : mark ≡ le
   abbrev whole : List ℕ
   whole = markOf source ++ encode (laidText (textOf source))
 
-  module _ {old : List ℕ} {r : ℕ} {new : List ℕ} (w : LaidFile (laidText slice) old r new) where
+  module _ {old : List ℕ} {r : ℕ} {new : List ℕ} (w : WroteText (laidText slice) old r new) where
     pub size-whole : mark + r ≡ length whole
     size-whole =
         let c : r ≡ length (encode (laidText (textOf source))) = w .count ∙ ap (λ (text : List ℕ). length (encode (laidText text))) slice-text in
@@ -92,11 +91,11 @@ module _ (source outline ws : List ℕ) (p : Page) {mark : ℕ} (e : mark ≡ le
     size-small g = let c = w .count in let b = file-bound p slice ws outline (given-slice g .0) (given-slice g .3) (given-slice g .2) in omega arith
 
   -- measuring writes nothing
-  pub measured-same : {old : List ℕ} {r : ℕ} {new : List ℕ} → LaidFile (laidText slice) (take 0 (drop 0 old)) r new → putMid 0 0 old new ≡ old
+  pub measured-same : {old : List ℕ} {r : ℕ} {new : List ℕ} → WroteText (laidText slice) (take 0 (drop 0 old)) r new → putMid 0 0 old new ≡ old
   unfolding writtenOver
   measured-same {old} w = ap (λ (l : List ℕ). l ++ old) (w .bytes)
 
-  pub file-written : {old xs ys new : List ℕ} {n r : ℕ} → xs ≡ old → length whole ≤ length old → Wrote xs (take (mark - 0) (drop 0 source)) n ys → LaidFile (laidText slice) (take (length ys - mark) (drop mark ys)) r new
+  pub file-written : {old xs ys new : List ℕ} {n r : ℕ} → xs ≡ old → length whole ≤ length old → Wrote xs (take (mark - 0) (drop 0 source)) n ys → WroteText (laidText slice) (take (length ys - mark) (drop mark ys)) r new
       → putMid mark (length ys - mark) ys new ≡ writtenOver old whole
   file-written {old} {xs} {ys} {new} q h a b =
       let size : mark - 0 ≡ length (markOf source) = omega arith in

@@ -24,8 +24,8 @@ ghost use Rattle.dogwood_rules.specs.Tree.{joined, runOf};
 ghost use Rattle.dogwood_layout.specs.View.{tokens, Ready};
 ghost use Rattle.dogwood_layout.specs.Measure.{spanAfter};
 ghost use Rattle.dogwood_layout.specs.Shape.{Formed};
-ghost use Rattle.dogwood_rules.specs.Layout.{walk};
-ghost use Rattle.dogwood_layout.specs.Pieces.{settings, Bounded, LaidOut, Measured, OnePiece, Broken, PieceLaid, brokenText, itemsText, itemText};
+ghost use Rattle.dogwood_rules.specs.Layout.{walk, layout};
+ghost use Rattle.dogwood_layout.specs.Pieces.{settings, Bounded, WroteText, Measured, OnePiece, Broken, PieceLaid, brokenText, itemsText, itemText};
 
 // How many bytes a piece has, and the column behind it.
 pub(crate) struct Laid {
@@ -36,7 +36,7 @@ pub(crate) struct Laid {
 // Lays a run out at a depth.
 pub fn lay_out(out: &mut [u8], text: &[u8], table: &[u32], page: Page, depth: usize) -> usize
     requires { ⌜ Ready (now text) (now table) × Formed (tokens (now text) (now table)) × Bounded page depth (length (now table)) ⌝ }
-    ensures { λ r. ⌜ LaidOut (settings page) depth (tokens (now (text .entry)) (now (table .entry))) (now (out .entry)) r (now (out .exit)) ⌝ }
+    ensures { λ r. ⌜ WroteText (layout (settings page) depth (tokens (now (text .entry)) (now (table .entry)))) (now (out .entry)) r (now (out .exit)) ⌝ }
 {
     let t = trimmed(table);
     let a = t.start;

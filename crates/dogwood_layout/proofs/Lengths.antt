@@ -19,7 +19,7 @@ use Rattle.dogwood_layout.specs.declared.Page.{Page}
 use Rattle.dogwood_layout.specs.Shape.{Shaped, Formed}
 use Rattle.dogwood_layout.specs.View.{tokenOf, tokens, Held, Holds, Ready}
 use Rattle.dogwood_layout.specs.Choice.{cutsOf, chosen}
-use Rattle.dogwood_layout.specs.Pieces.{settings, Bounded, LaidOut, eachLine, itemText, itemsText, pieceText}
+use Rattle.dogwood_layout.specs.Pieces.{settings, Bounded, WroteText, eachLine, itemText, itemsText, pieceText}
 use Rattle.dogwood_layout.proofs.Bytes.{encode-append}
 use Rattle.dogwood_layout.proofs.Tables.{bytes-length, holds-length, shown-blank, shown-bytes}
 use Rattle.dogwood_layout.proofs.Shapes.{run-of, formed-of, formed-from, opener-word, closer-word}
@@ -256,8 +256,8 @@ module _ (p : Page) (d : ℕ) (text ws : List ℕ) (r : Ready text ws) (f : Form
       omega arith
 
   -- so its count is the layout's length
-  pub laid-out : {old new : List ℕ} {m : ℕ} → Wrote old (encode (layout (settings p) d (tokens text ws))) m new → LaidOut (settings p) d (tokens text ws) old m new
+  pub laid-out : {old new : List ℕ} {m : ℕ} → Wrote old (encode (layout (settings p) d (tokens text ws))) m new → WroteText (layout (settings p) d (tokens text ws)) old m new
   laid-out w = let l = layout-bound in let c = w .count in record { count = omega arith; bytes = w .bytes }
 
-  pub laid-wrote : {old new : List ℕ} {m : ℕ} → LaidOut (settings p) d (tokens text ws) old m new → Wrote old (encode (layout (settings p) d (tokens text ws))) m new
+  pub laid-wrote : {old new : List ℕ} {m : ℕ} → WroteText (layout (settings p) d (tokens text ws)) old m new → Wrote old (encode (layout (settings p) d (tokens text ws))) m new
   laid-wrote w = let l = layout-bound in let c = w .count in record { count = omega arith; bytes = w .bytes }

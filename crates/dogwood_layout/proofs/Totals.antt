@@ -19,9 +19,9 @@ use Rattle.dogwood_rules.proofs.Pieces.{span-tokens}
 use Rattle.dogwood_rules.proofs.Files.{wordsAll, AllParts, parts-more, AllSane}
 use Rattle.dogwood_layout.specs.declared.Page.{Page}
 use Rattle.dogwood_layout.specs.View.{Ready}
-use Rattle.dogwood_layout.specs.Pieces.{settings, Bounded}
+use Rattle.dogwood_layout.specs.Pieces.{settings, Bounded, WroteText}
 use Rattle.dogwood_layout.specs.Places.{entries}
-use Rattle.dogwood_layout.specs.Feeds.{behind, dueLines, linesDue, dueRemarks, remarksDue, duePieces, LaidFile}
+use Rattle.dogwood_layout.specs.Feeds.{behind, dueLines, linesDue, dueRemarks, remarksDue, duePieces}
 use Rattle.dogwood_layout.proofs.Bytes.{encode-longer}
 use Rattle.dogwood_layout.proofs.Tables.{holds-length}
 use Rattle.dogwood_layout.proofs.Walks.{shown-text}
@@ -179,7 +179,7 @@ file-bound p text ws outline r b s =
 -- so its count is the layout's length
 pub file-laid : (p : Page) (text ws outline : List ℕ) → Ready text ws → Bounded p 0 (length ws) → AllSane (pieces (statements outline .0) (entries text ws)) → {old new : List ℕ} {r : ℕ}
     → Wrote old (encode (joinPieces (settings p) (pieces (statements outline .0) (entries text ws)))) r new
-    → LaidFile (joinPieces (settings p) (pieces (statements outline .0) (entries text ws))) old r new
+    → WroteText (joinPieces (settings p) (pieces (statements outline .0) (entries text ws))) old r new
 file-laid p text ws outline a b s w =
     let k = file-bound p text ws outline a b s in
     let c = w .count in

@@ -2,8 +2,8 @@
 use mathlib.Core.Path.{_≡_}
 use mathlib.Core.List.{List, [], _∷_, _++_}
 use Prim.Native.Nat.{ℕ}
-use lib.ListN.{length, replicate}
-use Rattle.pen.specs.Over.{over, Wrote, wrote-only}
+use lib.ListN.{replicate}
+use Rattle.pen.specs.Over.{Wrote, wrote-only}
 use Rattle.dogwood_rules.specs.Basic.{if_then_else_, dropBack}
 use Rattle.dogwood_rules.specs.Utf8.{encode}
 use Rattle.dogwood_rules.specs.Token.{Token, white}
@@ -41,15 +41,6 @@ dueAfter (laid ps) = 2
 unfoldable pub duePieces : Settings → ℕ → List Piece → List ℕ
 duePieces S n [] = []
 duePieces S n (p ∷ ps) = behind n (pieceText S p ++ duePieces S (dueAfter p) ps)
-
--- the text cs was written over old, as far as it fits, which is now new, and r is its length in bytes
-pub record LaidFile (cs : List ℕ) (old : List ℕ) (r : ℕ) (new : List ℕ) : Type 0 where
-  pub count : r ≡ length (encode cs)
-  pub bytes : new ≡ over old (encode cs)
-
--- no second answer and no second output
-pub laid-file-only : (cs old : List ℕ) (r s : ℕ) (new other : List ℕ) → LaidFile cs old r new → LaidFile cs old s other → (r ≡ s) × (new ≡ other)
-laid-file-only cs old r s new other a b = (cc, cc)
 
 -- cs was written, and n LFs are due behind it
 pub record Due (cs : List ℕ) (n : ℕ) (old : List ℕ) (count feeds : ℕ) (new : List ℕ) : Type 0 where

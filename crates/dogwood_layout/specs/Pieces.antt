@@ -8,7 +8,7 @@ use Rattle.dogwood_rules.specs.Basic.{if_then_else_, dropBack, trim}
 use Rattle.dogwood_rules.specs.Utf8.{encode}
 use Rattle.dogwood_rules.specs.Token.{Token}
 use Rattle.dogwood_rules.specs.Tree.{blank, opener, shown, joined, Run, nothing, single, group, Items, end, addItem, trimRun, tidy}
-use Rattle.dogwood_rules.specs.Layout.{Settings, column, spaces, fitGroup, joinLines, lines, layout}
+use Rattle.dogwood_rules.specs.Layout.{Settings, column, spaces, fitGroup, joinLines, lines}
 use Rattle.dogwood_layout.specs.Scan.{groupLen}
 use Rattle.dogwood_layout.specs.Choice.{cutsOf, chosen}
 use Rattle.dogwood_layout.specs.declared.Page.{Page}
@@ -21,14 +21,14 @@ pub record Bounded (p : Page) (depth words : ℕ) : Type 0 where
   pub width : p .width ≤ 4294967296
   pub deep : depth + words ≤ 4194304
 
--- the layout of ts was written over old, as far as it fits, which is now new, and r is its length
-pub record LaidOut (S : Settings) (d : ℕ) (ts : List Token) (old : List ℕ) (r : ℕ) (new : List ℕ) : Type 0 where
-  pub count : r ≡ length (encode (layout S d ts))
-  pub bytes : new ≡ over old (encode (layout S d ts))
+-- the text cs was written over old, as far as it fits, which is now new, and r is its length in bytes
+pub record WroteText (cs old : List ℕ) (r : ℕ) (new : List ℕ) : Type 0 where
+  pub count : r ≡ length (encode cs)
+  pub bytes : new ≡ over old (encode cs)
 
 -- no second answer and no second output
-pub laid-out-only : (S : Settings) (d : ℕ) (ts : List Token) (old : List ℕ) (r s : ℕ) (new other : List ℕ) → LaidOut S d ts old r new → LaidOut S d ts old s other → (r ≡ s) × (new ≡ other)
-laid-out-only S d ts old r s new other a b = (cc, cc)
+pub wrote-text-only : (cs old : List ℕ) (r s : ℕ) (new other : List ℕ) → WroteText cs old r new → WroteText cs old s other → (r ≡ s) × (new ≡ other)
+wrote-text-only cs old r s new other a b = (cc, cc)
 
 -- each line with an LF before it
 unfoldable pub eachLine : List (List ℕ) → List ℕ

@@ -20,9 +20,9 @@ ghost use Rattle.dogwood_rules.proofs.Layouts.{Part};
 ghost use Rattle.dogwood_rules.proofs.Files.{AllParts, AllSane};
 ghost use Rattle.dogwood_layout.specs.Ends.{Whole};
 ghost use Rattle.dogwood_layout.specs.View.{tokens, Ready};
-ghost use Rattle.dogwood_layout.specs.Pieces.{settings, Bounded};
+ghost use Rattle.dogwood_layout.specs.Pieces.{settings, Bounded, WroteText};
 ghost use Rattle.dogwood_layout.specs.Places.{entries, beforeLen, pairs, Paired};
-ghost use Rattle.dogwood_layout.specs.Feeds.{behind, dueLines, linesDue, dueRemarks, remarksDue, Due, LaidFile};
+ghost use Rattle.dogwood_layout.specs.Feeds.{behind, dueLines, linesDue, dueRemarks, remarksDue, Due};
 
 // How many words of a table stand for tokens that start before a place.
 fn until(table: &[u32], place: u32) -> usize
@@ -109,7 +109,7 @@ pub fn top_level_items(
     page: Page,
 ) -> usize
     requires { ⌜ Ready (now text) (now table) × (statements (now outline) .1 ≡ []) × AllSane (pieces (statements (now outline) .0) (entries (now text) (now table))) × Bounded page 0 (length (now table)) ⌝ }
-    ensures { λ r. ⌜ LaidFile (joinPieces (settings page) (pieces (statements (now (outline .entry)) .0) (entries (now (text .entry)) (now (table .entry))))) (now (out .entry)) r (now (out .exit)) ⌝ }
+    ensures { λ r. ⌜ WroteText (joinPieces (settings page) (pieces (statements (now (outline .entry)) .0) (entries (now (text .entry)) (now (table .entry))))) (now (out .entry)) r (now (out .exit)) ⌝ }
 {
     let mut n: usize = 0;
     let mut feeds: usize = 0;
