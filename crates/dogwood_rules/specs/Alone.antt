@@ -7,7 +7,7 @@ use lib.Dec.{ltb}
 use lib.ListN.{length}
 use Rattle.dogwood_rules.specs.Basic.{if_then_else_}
 use Rattle.dogwood_rules.specs.Utf8.{textOf}
-use Rattle.dogwood_rules.specs.Token.{Placed, wordsOf}
+use Rattle.dogwood_rules.specs.Token.{Placed, rowSize, wordsOf}
 use Rattle.dogwood_rules.specs.Source.{Source, tooLong, notUtf8, unended, cutInto, sourceOf}
 use Rattle.dogwood_rules.specs.Outline.{fits}
 
@@ -28,7 +28,7 @@ module _ (tableRoom : ℕ) where
   told f tooLong = stopped 11 0
   told f (notUtf8 place) = stopped 12 place
   told f (unended before place) = stopped 1 place
-  told f (cutInto ps) = if ltb tableRoom (3 * length ps) then stopped 13 (length ps) else f ps
+  told f (cutInto ps) = if ltb tableRoom (rowSize * length ps) then stopped 13 (length ps) else f ps
 
 -- else 0 with the token total
 unfoldable pub total : List Placed → Alone

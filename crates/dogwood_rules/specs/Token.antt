@@ -130,6 +130,9 @@ pub data Tiled (end : ℕ) : ℕ → List Placed → Type 0 where
   tiled-more : {p : Placed} {ps : List Placed} → p .start < p .stop → Tiled end (p .stop) ps → Tiled end (p .start) (p ∷ ps)
 
 -- 01: "The token table gets three words a token: kind, start, end."
+abbrev pub rowSize : ℕ
+rowSize = 3
+
 unfoldable pub wordsOf : List Placed → List ℕ
 wordsOf [] = []
 wordsOf (p ∷ ps) = kindNumber (p .token .kind) ∷ p .start ∷ p .stop ∷ wordsOf ps

@@ -1,5 +1,5 @@
-// Brackets: a token is one by its kind and the byte at its start.
-ghost use Rattle.dogwood_words.specs.Brackets.{opening, closing};
+// Brackets and separators: a token is one by its kind and the byte at its start.
+ghost use Rattle.dogwood_words.specs.Brackets.{opening, closing, comma, andOr};
 ghost use Rattle.dogwood_words.specs.Promises.{BracketIs};
 
 // One of ( [ {.
@@ -20,4 +20,24 @@ pub fn closes(kind: u32, first: u8) -> bool
         return false;
     }
     (first == 0x29) | (first == 0x5D) | (first == 0x7D)
+}
+
+// A comma.
+pub fn is_comma(kind: u32, first: u8) -> bool
+    ensures { λ r. ⌜ BracketIs comma kind first r ⌝ }
+{
+    if kind != 5 {
+        return false;
+    }
+    first == 0x2C
+}
+
+// && or ||.
+pub fn is_and_or(kind: u32, first: u8) -> bool
+    ensures { λ r. ⌜ BracketIs andOr kind first r ⌝ }
+{
+    if kind != 5 {
+        return false;
+    }
+    (first == 0x26) | (first == 0x7C)
 }

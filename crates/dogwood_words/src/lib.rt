@@ -5,6 +5,8 @@ mod rows;
 mod walks;
 
 pub use brackets::closes;
+pub use brackets::is_and_or;
+pub use brackets::is_comma;
 pub use brackets::opens;
 pub use records::Reading;
 pub use records::Record;
