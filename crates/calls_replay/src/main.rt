@@ -2,6 +2,8 @@
 // output, in which what was not written is `~`; the whole table in a line, in which what was not written is 4294967295.
 // A record: the source's bytes, the outline's words, the table's words and the output's bytes, as four words low byte first; the source; the outline.
 // A source of 1,048,576 bytes and more is all `a` and not written out: the longest that there may be, or one byte more.
+#![tactic(auto)]
+
 use dogwood_formatter::format_policies;
 use dogwood_told::tell;
 use files::{

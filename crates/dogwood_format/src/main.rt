@@ -1,5 +1,7 @@
 // The small program of document 01: a source and its outline, each from a file that an argument names; number, place and the output bytes.
 // Whatever is wrong with a file is said by one line, and before any number: nothing is laid out that was not read whole.
+#![tactic(auto)]
+
 use dogwood_formatter::format_policies;
 use dogwood_told::{Told, tell};
 use files::{ended, open_arg, put_pair, put_text, take_words, within};

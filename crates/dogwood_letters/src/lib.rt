@@ -1,4 +1,6 @@
 // Classes of characters, and symbols: a test for each.
+#![tactic(auto)]
+
 mod classes;
 mod symbols;
 

@@ -1,4 +1,6 @@
 // The test of fit, the verdict of answers 4, 2, 3 and 5, and testing an outline alone.
+#![tactic(auto)]
+
 mod fitting;
 mod judging;
 mod kinds;

@@ -1,4 +1,6 @@
 // A token reader that holds a reference to a source: thin over functions on a slice and numbers.
+#![tactic(auto)]
+
 ghost use Rattle.std.specs.Prelude.{◌≡◌};
 ghost use Rattle.dogwood_rules.specs.Readings.{reading};
 ghost use Rattle.dogwood_reader.specs.Standing.{told, standing, place_of, moved, onwards, held};

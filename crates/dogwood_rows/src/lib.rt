@@ -1,4 +1,6 @@
 // The rows of a token table: the one crate that knows how many words a row has. Any words and any places get an answer.
+#![tactic(auto)]
+
 mod cursor;
 mod parts;
 mod writing;

@@ -54,6 +54,7 @@ feed_stops t g os e f = rw (f.gap.text, f.lf) e
 
 stands_join : {xs : List Token} (g : Token) (ys : List Token) → Stands xs → Closed xs → Feed g → Stands (g ∷ ys) → Stands (xs ++ g ∷ ys)
 unfolding stops_before
+stands_join g ys stands_end c f q = elim c [ ]
 stands_join g ys (stands_more {t} e n s) (closed_one c) f q = stands_more e (feed_stops t g ys c f) q
 stands_join g ys (stands_more e n s) (closed_more c) f q = stands_more e n (stands_join g ys s c f q)
 
@@ -86,6 +87,8 @@ respaced_words n (p_gap h s) = words_blank (gap_blank_lem h) (respaced_words n s
 respaced_words (no_comment_lem c n) (p_drop b h s) = respaced_words n s
 
 words_closed : {a : Bool} (t : Token) (ts : List Token) → Stands (t ∷ ts) → Words (t ∷ ts) → Spread a true (t ∷ ts) → Closed (t ∷ ts)
+words_closed t [] (stands_more e n s) (words_blank w q) (spread_blank b p) = elim p [ ]
+words_closed t [] (stands_more e n s) (words_plain k q) (spread_blank b p) = elim p [ ]
 words_closed t [] (stands_more e n s) (words_blank w q) (spread_word b p) = absurd (let z : ◌≡◌ {A = ℕ} 0 1 = cc in omega arith)
 words_closed t [] (stands_more e n s) (words_plain k q) (spread_word b p) = closed_one (white-stops t 10 k e lf_white)
 words_closed t (u ∷ us) (stands_more e n s) (words_blank w q) (spread_blank b p) = closed_more (words_closed u us s q p)

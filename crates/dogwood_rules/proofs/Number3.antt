@@ -3,12 +3,12 @@ use mathlib.Core.Path.{◌≡◌, refl, sym, ◌∙◌, ap, subst}
 use mathlib.Core.Bool.{Bool, true, false}
 use mathlib.Core.List.{List, [], ◌∷◌, ◌++◌}
 use mathlib.Core.Option.{Option, none, some}
-use Prim.Native.Nat.{ℕ, ◌*◌}
+use Prim.Native.Nat.{ℕ, ◌+◌, ◌*◌}
 use native.Mathlib.Omega.{arith}
 use lib.Dec.{ltb, leb}
 use lib.ListN.{length, drop}
 use lib.Seq.{drop-append_seam}
-use Rattle.dogwood_rules.specs.Utf8.{decode, encode, marked, mark_of, text_of, AllScalar}
+use Rattle.dogwood_rules.specs.Utf8.{byte_length, decode, encode, marked, mark_of, text_of, AllScalar}
 use Rattle.dogwood_rules.specs.Token.{Token, Placed, tokenise, tokens, placed, spell, words_of}
 use Rattle.dogwood_rules.specs.Source.{Source, too_long, not_utf8, unended, cut_into, source_of}
 use Rattle.dogwood_rules.specs.Layout.{Settings}
@@ -96,7 +96,7 @@ module _ (S : Settings) (source outline : List ℕ) (tableRoom outputRoom : ℕ)
 pub tokens-placed : (at : ℕ) (ts : List Token) → tokens (placed at ts) ≡ ts
 unfolding tokens placed
 tokens-placed at [] = refl
-tokens-placed at (t ∷ ts) = ap (λ (l : List Token). t ∷ l) (tokens-placed _ ts)
+tokens-placed at (t ∷ ts) = ap (λ (l : List Token). t ∷ l) (tokens-placed (at + byte_length t.text) ts)
 
 pub number3 : Number3
 unfolding layout_of pieces_of tokens_in codes_of behind_mark made_of

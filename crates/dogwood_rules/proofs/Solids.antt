@@ -29,6 +29,7 @@ tail_back (tail_one {z} w) o = back_keeps white z o w
 tail_back (tail_more {c} {cs} t) o = ap (or_drop white c) (tail_back t o) ∙ go cs t
   where
     go : (ds : List ℕ) → Tail ds → or_drop white c (ds ++ drop_back white o) ≡ c ∷ (ds ++ drop_back white o)
+    go [] u = elim u [ ]
     go (d ∷ ds) u = refl
 
 solid : (c : ℕ) (cs : List ℕ) → white c ≡ false → Tail (c ∷ cs) → Solid (c ∷ cs)

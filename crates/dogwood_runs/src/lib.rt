@@ -1,5 +1,7 @@
 // The shape of a run of a table's tokens: its ends without white space, its groups and its items.
 // An inner crate: the crates above it have established what its functions ask.
+#![tactic(auto)]
+
 mod run;
 mod table;
 

@@ -1,4 +1,6 @@
 // Where a run of characters of a class ends, and where a string does.
+#![tactic(auto)]
+
 mod runs;
 mod strings;
 

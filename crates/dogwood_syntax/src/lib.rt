@@ -1,4 +1,6 @@
 // The token table and tokenising alone: document 000's tokenizer on bytes and offsets.
+#![tactic(auto)]
+
 mod table;
 mod tokenizing;
 

@@ -1,4 +1,6 @@
 // The mission's promises, held against the call itself.
+#![tactic(auto)]
+
 ghost use Rattle.dogwood_theorems.specs.Calls.{Promised};
 
 use dogwood_formatter::{Formatted, format_policies};

@@ -1,4 +1,6 @@
 // One token at a place, by the seven rules, the cursor that walks over the tokens of a text, and its first string without end.
+#![tactic(auto)]
+
 mod cursor;
 mod open;
 mod token;

@@ -1,4 +1,6 @@
 // The words of a token table and of an outline, read in place: rows, brackets, walks over rows, records.
+#![tactic(auto)]
+
 mod brackets;
 mod records;
 mod rows;

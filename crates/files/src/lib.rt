@@ -1,4 +1,6 @@
 // What the programs share.
+#![tactic(auto)]
+
 mod input;
 mod output;
 mod source;

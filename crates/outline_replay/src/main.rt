@@ -1,5 +1,7 @@
 // Tests the outline of each record of the file that the first argument names, and writes a line for each: number, value and every word of the
 // table. A record: the source's bytes, the outline's words and the table's words, as three words low byte first; the source; the outline.
+#![tactic(auto)]
+
 use dogwood_outline::Tested;
 use files::{open_arg, put_answer, put_text, read_part, take_words, word};
 

@@ -1,6 +1,8 @@
 // Reads each record of the file that the first argument names by a token reader, and writes a line for each: every reading up to the first that is
 // no token, and that one twice, to see it repeat. A record: the source's bytes and the words of a table, which is not used, as two words low byte
 // first; then the source.
+#![tactic(auto)]
+
 use dogwood_reader::Reading;
 use files::{open_arg, put_number, put_pair, put_text, read_part, word};
 

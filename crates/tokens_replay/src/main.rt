@@ -1,6 +1,8 @@
 // Tokenises each record of the file that the first argument names, and writes a line for each: number, value and every word of the table.
 // A record: the source's bytes and the table's words, as two words low byte first; then the source. A source of more than 4,096 bytes is all `a`
 // and not written out: the longest that there may be, or one byte more.
+#![tactic(auto)]
+
 use dogwood_syntax::Tokenized;
 use files::{letters, open_arg, put_answer, put_text, read_part, word};
 

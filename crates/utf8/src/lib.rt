@@ -1,4 +1,6 @@
 // UTF-8 as RFC 3629 has it: one character decoded at a place, and the first bad place of a text.
+#![tactic(auto)]
+
 ghost use Rattle.std.specs.Prelude.{◌≡◌, ◌+◌, ◌≤◌, true, length, get_or};
 ghost use Rattle.dogwood_rules.specs.Utf8.{mark_of};
 ghost use Rattle.dogwood_rules.specs.Utf8.{decode};
