@@ -1,5 +1,5 @@
 use borrow.Author.Rules.{rules}
-use borrow.Author.Tests.{not_true, not_false}
+use borrow.Author.Tests.{not-true, not-false}
 use Prim.Native.Nat.{◌-◌, ◌≤◌}
 use mathlib.Core.Path.{◌≡◌, sym, ◌∙◌}
 use native.Mathlib.Omega.{arith}
@@ -39,7 +39,7 @@ kind-fits-requires c κs = (said c.before.before.before.before.before.before.bef
 returns-2 : tie.Need-returns-2 invariant-loop decreases-loop
 returns-2 c =
     let s = c.before.before.before.before.before.before.before.before.before.before.before.args in
-    sym (left_kind s.text.now s.table.now s.outline.now c.before.before.before.before.before.before.before.loop.i c.before.before.before.before.before.before.before.loop.row c.before.before.before.before.before.before.loop-test.true (sym c.before.before.before.before.before.record-at.ensures ∙ c.before.before.before.r.given.1) (sym c.before.kind-fits.ensures ∙ not_true _ c.if1.true)) ∙ c.before.before.before.before.before.before.before.loop.invariant.0
+    sym (left_kind s.text.now s.table.now s.outline.now c.before.before.before.before.before.before.before.loop.i c.before.before.before.before.before.before.before.loop.row c.before.before.before.before.before.before.loop-test.true (sym c.before.before.before.before.before.record-at.ensures ∙ c.before.before.before.r.given.1) (sym c.before.kind-fits.ensures ∙ not-true _ c.if1.true)) ∙ c.before.before.before.before.before.before.before.loop.invariant.0
 
 gap-requires : tie.Need-gap-requires invariant-loop decreases-loop
 gap-requires c κs = search rules
@@ -53,7 +53,7 @@ enum-told-2 c = search rules
 returns-3 : tie.Need-returns-3 invariant-loop decreases-loop
 returns-3 c =
     let s = c.before.before.before.before.before.before.before.before.before.before.before.before.before.before.args in
-    sym (left_gap s.text.now s.table.now s.outline.now c.before.before.before.before.before.before.before.before.before.before.loop.i c.before.before.before.before.before.before.before.before.before.before.loop.row c.before.before.before.before.before.before.before.before.before.loop-test.true (sym c.before.before.before.before.before.before.before.before.record-at.ensures ∙ c.before.before.before.before.before.before.r.given.1) (sym c.before.before.before.before.kind-fits.ensures ∙ not_false _ c.before.before.before.if1.false) (sym c.before.before.gap.ensures ∙ c.enum-told2.given.1)) ∙ c.before.before.before.before.before.before.before.before.before.before.loop.invariant.0
+    sym (left_gap s.text.now s.table.now s.outline.now c.before.before.before.before.before.before.before.before.before.before.loop.i c.before.before.before.before.before.before.before.before.before.before.loop.row c.before.before.before.before.before.before.before.before.before.loop-test.true (sym c.before.before.before.before.before.before.before.before.record-at.ensures ∙ c.before.before.before.before.before.before.r.given.1) (sym c.before.before.before.before.kind-fits.ensures ∙ not-false _ c.before.before.before.if1.false) (sym c.before.before.gap.ensures ∙ c.enum-told2.given.1)) ∙ c.before.before.before.before.before.before.before.before.before.before.loop.invariant.0
 
 add-t9 : tie.Need-overflow-add-t9 invariant-loop decreases-loop
 add-t9 c = omega (arith, (said c.before.before.before.before.before.before.before.before.before.before.before.before.before.before.before.args.outline.now c.before.before.before.before.before.before.before.before.before.before.before.loop.i (sym c.before.before.before.before.before.before.before.before.before.record-at.ensures ∙ c.before.before.before.before.before.before.before.r.given.1)).room)
@@ -64,7 +64,7 @@ parts-requires c κs = parts_room c.before.before.before.before.before.before.be
 returns-4 : tie.Need-returns-4 invariant-loop decreases-loop
 returns-4 c =
     let s = c.before.before.before.before.before.before.before.before.before.before.before.before.before.before.before.before.before.args in
-    sym (left_parts s.text.now s.table.now s.outline.now c.before.before.before.before.before.before.before.before.before.before.before.before.before.loop.i c.before.before.before.before.before.before.before.before.before.before.before.before.before.loop.row c.before.before.before.before.before.before.before.before.before.before.before.before.loop-test.true (sym c.before.before.before.before.before.before.before.before.before.before.before.record-at.ensures ∙ c.before.before.before.before.before.before.before.before.before.r.given.1) (sym c.before.before.before.before.before.before.before.kind-fits.ensures ∙ not_false _ c.before.before.before.before.before.before.if1.false) (sym c.before.before.before.before.before.gap.ensures ∙ c.before.before.before.start.given.1) (sym c.before.parts.ensures ∙ not_true _ c.if2.true)) ∙ c.before.before.before.before.before.before.before.before.before.before.before.before.before.loop.invariant.0
+    sym (left_parts s.text.now s.table.now s.outline.now c.before.before.before.before.before.before.before.before.before.before.before.before.before.loop.i c.before.before.before.before.before.before.before.before.before.before.before.before.before.loop.row c.before.before.before.before.before.before.before.before.before.before.before.before.loop-test.true (sym c.before.before.before.before.before.before.before.before.before.before.before.record-at.ensures ∙ c.before.before.before.before.before.before.before.before.before.r.given.1) (sym c.before.before.before.before.before.before.before.kind-fits.ensures ∙ not-false _ c.before.before.before.before.before.before.if1.false) (sym c.before.before.before.before.before.gap.ensures ∙ c.before.before.before.start.given.1) (sym c.before.parts.ensures ∙ not-true _ c.if2.true)) ∙ c.before.before.before.before.before.before.before.before.before.before.before.before.before.loop.invariant.0
 
 skip-requires : tie.Need-skip-requires invariant-loop decreases-loop
 skip-requires c κs = search rules
@@ -78,7 +78,7 @@ loop-again : tie.Need-loop-preserved invariant-loop decreases-loop
 loop-again c =
     let s = c.before.before.before.before.before.before.before.before.before.before.before.before.before.before.before.before.before.before.args in
     let q = sym c.before.before.before.before.before.before.before.before.before.before.before.before.record-at.ensures ∙ c.before.before.before.before.before.before.before.before.before.before.r.given.1 in
-    (sym (left_on s.text.now s.table.now s.outline.now c.before.before.before.before.before.before.before.before.before.before.before.before.before.before.loop.i c.before.before.before.before.before.before.before.before.before.before.before.before.before.before.loop.row c.before.before.before.before.before.before.before.before.before.before.before.before.before.loop-test.true q (sym c.before.before.before.before.before.before.before.before.kind-fits.ensures ∙ not_false _ c.before.before.before.before.before.before.before.if1.false) (sym c.before.before.before.before.before.before.gap.ensures ∙ c.before.before.before.before.start.given.1) (sym c.before.before.parts.ensures ∙ not_false _ c.before.if2.false) c.skip.ensures) ∙ c.before.before.before.before.before.before.before.before.before.before.before.before.before.before.loop.invariant.0, (next_room s.outline.now c.before.before.before.before.before.before.before.before.before.before.before.before.before.before.loop.i q).1)
+    (sym (left_on s.text.now s.table.now s.outline.now c.before.before.before.before.before.before.before.before.before.before.before.before.before.before.loop.i c.before.before.before.before.before.before.before.before.before.before.before.before.before.before.loop.row c.before.before.before.before.before.before.before.before.before.before.before.before.before.loop-test.true q (sym c.before.before.before.before.before.before.before.before.kind-fits.ensures ∙ not-false _ c.before.before.before.before.before.before.before.if1.false) (sym c.before.before.before.before.before.before.gap.ensures ∙ c.before.before.before.before.start.given.1) (sym c.before.before.parts.ensures ∙ not-false _ c.before.if2.false) c.skip.ensures) ∙ c.before.before.before.before.before.before.before.before.before.before.before.before.before.before.loop.invariant.0, (next_room s.outline.now c.before.before.before.before.before.before.before.before.before.before.before.before.before.before.loop.i q).1)
 
 gap-requires-2 : tie.Need-gap-requires-2 invariant-loop decreases-loop
 gap-requires-2 c κs = search rules

@@ -4,7 +4,7 @@ use mathlib.Core.Path.{◌≡◌, refl, sym, ◌∙◌}
 use native.Mathlib.Omega.{arith}
 use lib.ListN.{length}
 use Rattle.utf8.proofs.Inside.{inside}
-use borrow.Author.Tests.{not_true, not_false}
+use borrow.Author.Tests.{not-true, not-false}
 use Rattle.dogwood_scans.specs.Run.{run_end}
 use Rattle.dogwood_scans.proofs.Run.{run_on, run_off, run_cut}
 use Rattle.dogwood_scans.proofs.runs.take_while.Statement.{statement}
@@ -35,7 +35,7 @@ is-class-requires : tie.Need-is-class-requires invariant-loop decreases-loop
 is-class-requires c κs = search rules
 
 returns-2 : tie.Need-returns-2 invariant-loop decreases-loop
-returns-2 c = sym (run_off _ _ _ (sym c.before.before.before.before.before.decode.ensures ∙ c.before.before.before.code.given.1) (sym c.before.is-class.ensures ∙ not_true _ c.if1.true)) ∙ c.before.before.before.before.before.before.loop.invariant
+returns-2 c = sym (run_off _ _ _ (sym c.before.before.before.before.before.decode.ensures ∙ c.before.before.before.code.given.1) (sym c.before.is-class.ensures ∙ not-true _ c.if1.true)) ∙ c.before.before.before.before.before.before.loop.invariant
 
 add-i : tie.Need-overflow-add-i invariant-loop decreases-loop
 add-i c = omega (arith, inside c.before.before.before.before.before.before.before.before.args.s.now c.before.before.before.before.before.before.loop.i (sym c.before.before.before.before.before.decode.ensures ∙ c.before.before.before.code.given.1))
@@ -44,7 +44,7 @@ loop-less : tie.Need-loop-smaller invariant-loop decreases-loop
 loop-less c = omega (arith, inside c.before.before.before.before.before.before.before.before.args.s.now c.before.before.before.before.before.before.loop.i (sym c.before.before.before.before.before.decode.ensures ∙ c.before.before.before.code.given.1))
 
 loop-again : tie.Need-loop-preserved invariant-loop decreases-loop
-loop-again c = sym (run_on _ _ _ (sym c.before.before.before.before.before.decode.ensures ∙ c.before.before.before.code.given.1) (sym c.before.is-class.ensures ∙ not_false _ c.if1.false)) ∙ c.before.before.before.before.before.before.loop.invariant
+loop-again c = sym (run_on _ _ _ (sym c.before.before.before.before.before.decode.ensures ∙ c.before.before.before.code.given.1) (sym c.before.is-class.ensures ∙ not-false _ c.if1.false)) ∙ c.before.before.before.before.before.before.loop.invariant
 
 pub take-while-spec : {M : Type 1} → statement M
 take-while-spec =

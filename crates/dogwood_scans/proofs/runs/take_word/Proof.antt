@@ -2,7 +2,7 @@ use Prim.Native.Nat.{◌-◌}
 use mathlib.Core.Path.{◌≡◌, refl, sym, ◌∙◌}
 use native.Mathlib.Omega.{arith}
 use borrow.Author.Rules.{rules}
-use borrow.Author.Tests.{not_true, not_false}
+use borrow.Author.Tests.{not-true, not-false}
 use lib.ListN.{length}
 use Rattle.dogwood_scans.specs.declared.runs.Class.TheVariants.{Word}
 use Rattle.dogwood_scans.specs.Class.{in_class}
@@ -37,7 +37,7 @@ is-word-requires c κs = search rules
 
 returns-2 : tie.Need-returns-2 invariant-loop decreases-loop
 unfolding in_class
-returns-2 c = run_done Word c.before.before.before.before.before.before.before.args.s.now c.before.before.before.before.before.loop.i c.before.before.before.before.loop-test.true c.before.before.if1.false (sym c.before.is_IsWord.ensures ∙ not_true _ c.if2.true) ∙ c.before.before.before.before.before.loop.invariant
+returns-2 c = run_done Word c.before.before.before.before.before.before.before.args.s.now c.before.before.before.before.before.loop.i c.before.before.before.before.loop-test.true c.before.before.if1.false (sym c.before.is_IsWord.ensures ∙ not-true _ c.if2.true) ∙ c.before.before.before.before.before.loop.invariant
 
 add-i : tie.Need-overflow-add-i invariant-loop decreases-loop
 add-i c = omega arith
@@ -47,7 +47,7 @@ loop-less c = omega arith
 
 loop-again : tie.Need-loop-preserved invariant-loop decreases-loop
 unfolding in_class
-loop-again c = run_byte Word c.before.before.before.before.before.before.before.args.s.now c.before.before.before.before.before.loop.i c.before.before.before.before.loop-test.true c.before.before.if1.false (sym c.before.is_IsWord.ensures ∙ not_false _ c.if2.false) ∙ c.before.before.before.before.before.loop.invariant
+loop-again c = run_byte Word c.before.before.before.before.before.before.before.args.s.now c.before.before.before.before.before.loop.i c.before.before.before.before.loop-test.true c.before.before.if1.false (sym c.before.is_IsWord.ensures ∙ not-false _ c.if2.false) ∙ c.before.before.before.before.before.loop.invariant
 
 returns-3 : tie.Need-returns-3 invariant-loop decreases-loop
 returns-3 c = run_out Word c.before.before.before.args.s.now c.before.loop.i c.loop-test.false ∙ c.before.loop.invariant
