@@ -8,7 +8,7 @@ use dogwood_letters::{is_digit, is_line, is_other, is_space, is_word};
 use utf8::Decoded;
 
 // A class of characters, of which a token may be a run.
-#[derive(Drop)]
+#[derive(Clone, Copy)]
 pub enum Class {
     Space,
     Word,
