@@ -32,7 +32,7 @@ reads-drop s {i} {cs} zero r = subst (λ (j : ℕ). Reads s j cs) (sym (add-zero
 reads-drop s {i} (suc n) (reads_end e) = subst (λ (j : ℕ). Reads s j []) (sym (add-zero i)) (reads_end e)
 reads-drop s {i} (suc n) (reads_more {c} {cs} d r) =
     let q : i + size c + byte_length (take n cs) ≡ i + (size c + byte_length (take n cs)) = omega arith in
-    subst (λ (j : ℕ). Reads s j (drop n cs)) q (reads-drop s n r)
+    subst (λ (j : ℕ). Reads s j (drop n cs)) q (reads-drop s {i = i + size c} n r)
 
 -- a run
 pub run_reads : (k : Class) (s : List ℕ) {i : ℕ} {cs : List ℕ} → Reads s i cs → run_end k s i ≡ i + byte_length (take (run_length (in_class k) cs) cs)
