@@ -16,7 +16,7 @@ use dogwood_syntax::{Tokenized, tokenize};
 use utf8::split_bom;
 
 // What formatting answers.
-#[derive(Drop)]
+#[derive(Clone, Copy)]
 pub enum Formatted {
     // The bytes of the mark and the layout.
     Done { len: usize },

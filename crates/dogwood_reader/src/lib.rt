@@ -10,7 +10,7 @@ use dogwood_tokens::{Cursor, Step};
 use utf8::Found;
 
 // What a reading gives: a token's kind, start and end; that the text has ended; where a string without end begins; a refusal's number and place.
-#[derive(Drop)]
+#[derive(Clone, Copy)]
 pub enum Reading {
     Token(u32, usize, usize),
     Ended,
@@ -19,7 +19,7 @@ pub enum Reading {
 }
 
 // A reading in numbers. A token is not empty; where start is end, the number tells: 0 the end, 1, 11 or 12 with start as the place.
-#[derive(Drop)]
+#[derive(Clone, Copy)]
 pub struct State {
     number: u32,
     kind: u32,
@@ -123,7 +123,7 @@ fn reading_of(state: State) -> Reading
 }
 
 // A reader stands at a reading of the source that it holds.
-#[derive(Drop)]
+#[derive(Clone, Copy)]
 pub struct TokenReader<'a> {
     src: &'a [u8],
     state: State,

@@ -9,7 +9,7 @@ use dogwood_tokens::first_open;
 use utf8::Found;
 
 // What tokenising answers.
-#[derive(Drop)]
+#[derive(Clone, Copy)]
 pub enum Tokenized {
     // How many tokens the table begins with.
     Done(usize),

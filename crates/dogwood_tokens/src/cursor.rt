@@ -5,7 +5,7 @@ ghost use Rattle.dogwood_tokens.specs.Cursor.{next_of};
 use crate::token::{Lexeme, token_at};
 
 // A token: its kind, and its bounds in the text.
-#[derive(Drop)]
+#[derive(Clone, Copy)]
 pub struct Token {
     pub kind: u32,
     pub start: usize,
@@ -13,13 +13,13 @@ pub struct Token {
 }
 
 // A place in a text, from which its tokens are read one after the other.
-#[derive(Drop)]
+#[derive(Clone, Copy)]
 pub struct Cursor {
     pub at: usize,
 }
 
 // What a reading gives: a token with the cursor behind it, the place of a string without end, or the end.
-#[derive(Drop)]
+#[derive(Clone, Copy)]
 pub enum Step {
     Token(Token, Cursor),
     Unended(usize),

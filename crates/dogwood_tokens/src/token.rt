@@ -9,7 +9,7 @@ use dogwood_scans::{
 use utf8::{Decoded, Found};
 
 // What stands at a place: a token of a kind, with its end; a string without end; or no character.
-#[derive(Drop)]
+#[derive(Clone, Copy)]
 pub(crate) enum Lexeme {
     // Its kind, and where it ends.
     Token(u32, usize),

@@ -9,7 +9,7 @@ ghost use Rattle.utf8.specs.Valid.{bad_from};
 ghost use Rattle.utf8.specs.Utf8.{length_of, within, low_of, high_of, two_of, three_of, four_of, decode_at};
 
 // What stands at a place: a character with its length in bytes, or no character.
-#[derive(Drop)]
+#[derive(Clone, Copy)]
 pub enum Decoded {
     Char { code: u32, len: usize },
     Fault,
@@ -145,7 +145,7 @@ pub fn decode(s: &[u8], at: usize) -> Decoded
 }
 
 // A place of a text, or none.
-#[derive(Drop)]
+#[derive(Clone, Copy)]
 pub enum Found {
     At(usize),
     Nothing,
