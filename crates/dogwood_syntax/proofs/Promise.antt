@@ -13,7 +13,6 @@ use Rattle.dogwood_rules.specs.Source.{Source, cut_into, source_of}
 use Rattle.dogwood_rules.specs.Alone.{Alone, stopped, told, total, tokenised}
 use Rattle.dogwood_rules.specs.Promises.{Tokenises, over}
 use Rattle.dogwood_rules.proofs.Sources.{source_long, source_bad, source_open, source_cut}
-use Rattle.dogwood_rules.specs.Token as R
 use Rattle.dogwood_rules.proofs.Decoding.{decode_sound}
 use Rattle.utf8.specs.Told.{left_at}
 use Rattle.utf8.specs.declared.Found.TheVariants.{At, Nothing}

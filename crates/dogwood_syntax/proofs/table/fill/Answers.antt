@@ -1,0 +1,88 @@
+use Prim.Native.Nat.{ℕ, ◌+◌, ◌*◌, ◌≤◌}
+use mathlib.Core.Path.{refl, sym, ap, ◌∙◌}
+use native.Mathlib.Omega.{arith}
+use native.Mathlib.Nat.{zero-add}
+use lib.ListN.{length}
+use lib.Seq.{sets}
+use lib.Dec.{leb}
+use mathlib.Core.List.{List, [], ◌∷◌}
+use Rattle.dogwood_rules.specs.Token.{Placed, words_of}
+use Rattle.dogwood_tokens.specs.Cursor.{tokens_at}
+use Rattle.dogwood_tokens.proofs.Steps.{next_onward, next-token, next_bounds, words_next, next-ended, next-unended}
+use Rattle.dogwood_syntax.proofs.Filling.{put_on, put_length, length_words}
+use Rattle.dogwood_syntax.proofs.table.fill.Goals as goal
+
+pub loop-token-init : goal.loop-token-init
+loop-token-init c = (
+  omega arith,
+  omega (arith, c.new-cursor.ensures),
+  refl,
+  zero-add _ ∙ ap (λ (i : ℕ). length (tokens_at c.args.text.now i)) c.new-cursor.ensures,
+  λ h. ap (λ (i : ℕ). sets c.args.table.now 0 (words_of (tokens_at c.args.text.now i))) c.new-cursor.ensures,
+)
+
+pub put-requires : goal.put-requires
+put-requires c =
+    let p = next_bounds c.args.text.now c.loop-token.cursor.at (sym c.next.ensures ∙ c.in-Token.is) in
+    let q = next_onward c.args.text.now c.loop-token.cursor.at (sym c.next.ensures ∙ c.in-Token.is) in
+    (omega (arith, c.requires), omega (arith, c.requires))
+
+pub overflow_add-n : goal.overflow_add-n
+overflow_add-n c = omega (arith, next_onward c.args.text.now c.loop-token.cursor.at (sym c.next.ensures ∙ c.in-Token.is))
+
+pub loop-token-smaller : goal.loop-token-smaller
+loop-token-smaller c = omega (arith, next_onward c.args.text.now c.loop-token.cursor.at (sym c.next.ensures ∙ c.in-Token.is))
+
+pub loop-token-preserved : goal.loop-token-preserved
+loop-token-preserved c =
+    let s = c.args.text.now in
+    let at = c.loop-token.cursor.at in
+    let n = c.loop-token.n in
+    let t = c.loop-token.table in
+    let token = c.in-Token.token in
+    let behind = c.in-Token.behind.at in
+    let rest = tokens_at s behind in
+    let h = (sym c.next.ensures ∙ c.in-Token.is) in
+    let o = next_onward s at h in
+    let b = next_bounds s at h in
+    let m = ap length (next-token s at h).tokens in
+    let v = c.loop-token.invariant in (
+      omega arith,
+      o.1,
+      put_length t c.put.new.table (token.kind ∷ at ∷ behind ∷ []) (3 * n) (leb (3 * n + 3) (length t)) c.put.ensures ∙ v.2,
+      omega (arith, v.3),
+      λ f.
+          let w = length_words (tokens_at s 0) in
+          let r : 3 * n + 3 ≤ length t = omega (arith, v.2, v.3) in
+          put_on t c.put.new.table n token.kind at behind (words_of rest) c.put.ensures r
+          ∙ (λ i. sets t (3 * n) (token.kind ∷ sym b.0 i ∷ sym b.1 i ∷ words_of rest))
+          ∙ ap (sets t (3 * n)) (sym (words_next s at h)) ∙ v.4 f,
+    )
+
+pub shape_of-table-in-Unended : goal.shape_of-table-in-Unended
+shape_of-table-in-Unended c = c.loop-token.invariant.2
+
+pub returns-in-Unended : goal.returns-in-Unended
+unfolding words_of
+returns-in-Unended c =
+    let s = c.args.text.now in
+    let none = next-unended s c.loop-token.cursor.at (sym c.next.ensures ∙ c.in-Unended.is) in
+    let v = c.loop-token.invariant in
+    record {
+      total = omega (arith, ap length none, v.3);
+      written = λ f. ap (λ (l : List Placed). sets c.loop-token.table (3 * c.loop-token.n) (words_of l)) (sym none) ∙ v.4 f;
+    }
+
+pub shape_of-table-in-Ended : goal.shape_of-table-in-Ended
+shape_of-table-in-Ended c = c.loop-token.invariant.2
+
+pub returns-in-Ended : goal.returns-in-Ended
+unfolding words_of
+returns-in-Ended c =
+    let s = c.args.text.now in
+    let none = next-ended s c.loop-token.cursor.at (sym c.next.ensures ∙ c.in-Ended.is) in
+    let v = c.loop-token.invariant in
+    record {
+      total = omega (arith, ap length none, v.3);
+      written = λ f. ap (λ (l : List Placed). sets c.loop-token.table (3 * c.loop-token.n) (words_of l)) (sym none) ∙ v.4 f;
+    }

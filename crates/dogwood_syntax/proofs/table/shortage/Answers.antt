@@ -1,0 +1,20 @@
+use native.Mathlib.Omega.{arith}
+use borrow.Author.Tests.{lt-ltb, le-ltb}
+use lib.ListN.{length}
+use Rattle.dogwood_tokens.specs.Cursor.{tokens_at}
+use Rattle.dogwood_syntax.specs.Table.{short_of}
+use Rattle.dogwood_tokens.proofs.Seam.{count_all}
+use Rattle.dogwood_tokens.proofs.Tokens.{tokens_few}
+use Rattle.dogwood_syntax.proofs.table.shortage.Goals as goal
+
+pub returns-then-text-records : goal.returns-then-text-records
+unfolding short_of
+returns-then-text-records c = simp (le-ltb c.args.records (length (tokens_at c.args.text.now 0)) (omega (arith, tokens_few c.args.text.now 0 (omega arith), count_all c.args.text.now)))
+
+pub returns-then-records-n : goal.returns-then-records-n
+unfolding short_of
+returns-then-records-n c = simp (← c.count-n.ensures, lt-ltb _ _ c.if-records-n.true)
+
+pub returns : goal.returns
+unfolding short_of
+returns c = simp (← c.count-n.ensures, le-ltb _ _ c.if-records-n.false)
