@@ -14,4 +14,4 @@ pub overflow_cast-result : goal.overflow_cast-result
 overflow_cast-result c = omega (arith, c.type_inv.table (c.args.i + 1))
 
 pub returns : goal.returns
-returns c = sym (row_whole c.args.table.now c.args.i (omega (arith, c.if-table-i.false, c.if-table-i-lt3.false)))
+returns c = sym (row_whole c.args.table.now c.args.i (omega arith))

@@ -42,4 +42,4 @@ loop-kind-smaller c =
 pub loop-kind-preserved : goal.loop-kind-preserved
 loop-kind-preserved c =
     let k = row_stands c.args.table.now c.loop-kind.i (sym c.in-Token.ensures) in
-    sym (gap_on c.args.table.now _ _ _ k c.if-n-start.false c.if-kind-ge2.false) ∙ c.loop-kind.invariant
+    sym (gap_on c.args.table.now _ _ _ k c.if-n-start.false (omega arith)) ∙ c.loop-kind.invariant
