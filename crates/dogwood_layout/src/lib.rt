@@ -1,7 +1,6 @@
 // What the layout speaks of: definitions of its pieces and the laws about them. No function.
 #![tactic(auto)]
 
-
 // A token's kind, and its bounds in the text.
 #[derive(Drop)]
 pub struct Entry {
