@@ -2,7 +2,7 @@
 #![tactic(auto)]
 
 // A token's kind, and its bounds in the text.
-#[derive(Drop)]
+#[derive(Clone, Copy)]
 pub struct Entry {
     pub kind: u32,
     pub start: u32,
@@ -24,7 +24,7 @@ pub struct Part {
 }
 
 // How wide a line may be, and how many spaces a level is indented by.
-#[derive(Drop)]
+#[derive(Clone, Copy)]
 pub struct Page {
     pub width: usize,
     pub indent: usize,
