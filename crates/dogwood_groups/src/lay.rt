@@ -22,7 +22,7 @@ pub(crate) struct Laid {
 }
 
 // Lays a run out at a depth.
-#[cycle(lay_group_lay_item_lay_items_lay_out_lay_piece_lay_run)]
+#[cycle(laying)]
 pub fn lay_out(out: &mut [u8], text: &[u8], table: &[u32], page: Page, depth: usize) -> usize
     requires { Ready text.now table.now × Formed (tokens text.now table.now) × Bounded page depth (length table.now) }
     ensures { WroteText (layout (settings page) depth (tokens text.now table.now)) out.old result out.new }
@@ -47,7 +47,7 @@ pub fn lay_out(out: &mut [u8], text: &[u8], table: &[u32], page: Page, depth: us
 }
 
 // Walks over a run that ends in no white space, from a column on; width is that of its tokens.
-#[cycle(lay_group_lay_item_lay_items_lay_out_lay_piece_lay_run)]
+#[cycle(laying)]
 fn lay_run(
     out: &mut [u8],
     text: &[u8],
@@ -88,7 +88,7 @@ fn lay_run(
 }
 
 // Lays a token or a group out from a column on, with so many columns to follow; span is its flat measure.
-#[cycle(lay_group_lay_item_lay_items_lay_out_lay_piece_lay_run)]
+#[cycle(laying)]
 fn lay_piece(
     out: &mut [u8],
     text: &[u8],
@@ -122,7 +122,7 @@ fn lay_piece(
 }
 
 // Writes a group with its items on lines of their own.
-#[cycle(lay_group_lay_item_lay_items_lay_out_lay_piece_lay_run)]
+#[cycle(laying)]
 fn lay_group(out: &mut [u8], text: &[u8], table: &[u32], page: Page, depth: usize) -> usize
     requires { Ready text.now table.now × Formed (tokens text.now table.now) × Bounded page depth (length table.now) × Broken (run_of (tokens text.now table.now)) }
     ensures { Wrote out.old (encode (broken_text (settings page) depth (run_of (tokens text.now table.now)))) result out.new }
@@ -147,7 +147,7 @@ fn lay_group(out: &mut [u8], text: &[u8], table: &[u32], page: Page, depth: usiz
 }
 
 // Writes the items of an inside, each on a line of its own.
-#[cycle(lay_group_lay_item_lay_items_lay_out_lay_piece_lay_run)]
+#[cycle(laying)]
 fn lay_items(out: &mut [u8], text: &[u8], table: &[u32], page: Page, depth: usize) -> usize
     requires { Ready text.now table.now × Formed (tokens text.now table.now) × Bounded page depth (length table.now) }
     ensures { Wrote out.old (encode (items_text (settings page) depth (run_of (tokens text.now table.now)))) result out.new }
@@ -168,7 +168,7 @@ fn lay_items(out: &mut [u8], text: &[u8], table: &[u32], page: Page, depth: usiz
 }
 
 // Writes an item on a line of its own, or nothing if it is white space.
-#[cycle(lay_group_lay_item_lay_items_lay_out_lay_piece_lay_run)]
+#[cycle(laying)]
 fn lay_item(out: &mut [u8], text: &[u8], table: &[u32], page: Page, depth: usize) -> usize
     requires { Ready text.now table.now × Formed (tokens text.now table.now) × Bounded page depth (length table.now) }
     ensures { Wrote out.old (encode (item_text (settings page) depth (run_of (tokens text.now table.now)))) result out.new }
