@@ -1,6 +1,10 @@
 -- A count that stays within what is there.
-use Rattle.std.specs.Prelude.{ℕ, cond, ◌≡◌, ltb}
+use Rattle.std.specs.Prelude.{ℕ, cond, ◌≡◌, ◌≤◌, ltb, List, length, take}
 use Rattle.std.proofs.Common.{sym, ◌∙◌}
+
+-- so many stand at the start: the part of them is within what is there, and has that many
+abbrev pub IsPrefixLen : ℕ → List ℕ → Type 0
+IsPrefixLen n xs = (n ≤ length xs) × (n ≡ length (take n xs))
 
 -- n, where that many are there, else 0
 unfoldable pub held : ℕ → ℕ → ℕ

@@ -1,3 +1,4 @@
 pub mod Held
 pub mod Word
 pub mod Letters
+pub mod Written

@@ -1,7 +1,12 @@
-// Files that are read. No contract can say what a file gives.
-ghost use Rattle.std.specs.Prelude.{◌≤◌, ◌≡◌, length, take};
-ghost use Rattle.io.specs.Counts.{IsPrefixLen};
-ghost use Rattle.files.specs.Held.{held};
+// Files that are read. No contract can say what a file gives; of a reader whose bytes are known, it says which of them were taken.
+ghost use Rattle.std.specs.Prelude.{◌≡◌, IsTrue, length, take};
+ghost use Rattle.std.specs.Io.KnownBytes.{Consumes, IsAtEnd};
+ghost use Rattle.files.specs.Held.{IsPrefixLen, held};
+
+use std::fs::File;
+use std::io::Read;
+use std::rt::{Env, Files};
+use std::str;
 
 // n, where that many bytes are there, else 0. It takes buf and not its length so that its promise can speak of buf.
 pub fn within(n: usize, buf: &[u8]) -> usize
@@ -14,29 +19,47 @@ pub fn within(n: usize, buf: &[u8]) -> usize
     n
 }
 
-// Reads n bytes to the start of buf, or fewer where the input ends, and answers how many; 0 where buf is too short.
-pub fn read_part(fd: i32, buf: &mut [u8], n: usize) -> usize
-    ensures { IsPrefixLen result buf.new }
+// Reads until buf is full, the input ends or a read fails, and answers how many bytes now stand at its start.
+fn fill<R: Read>(input: &mut R, buf: &mut [u8]) -> usize
+    ensures prefix_len { IsPrefixLen result buf.new }
+    ensures taken { Consumes (R.remaining input.old) (R.remaining input.new) (take result buf.new) }
+{
+    let mut done = 0;
+    while done < buf.len() {
+        match input.read(&mut buf[done..]) {
+            Ok(n) if n > 0 => done += n,
+            _ => break,
+        }
+    }
+    done
+}
+
+// Reads n bytes to the start of buf, or fewer where the input ends or a read fails, and answers how many; 0 where buf is too short.
+pub fn read_part<R: Read>(input: &mut R, buf: &mut [u8], n: usize) -> usize
+    ensures prefix_len { IsPrefixLen result buf.new }
+    ensures taken { Consumes (R.remaining input.old) (R.remaining input.new) (take result buf.new) }
 {
     if buf.len() < n {
         return 0;
     }
-    let m = io::read_full(fd, &mut buf[0..n]);
-    within(m, buf)
+    fill(input, &mut buf[..n])
 }
 
-// Whether the input has ended here. A read that fails, as of a folder, is no end: `io::read_full` answers 0 to both.
-pub fn ended(fd: i32) -> bool {
+// Whether the input has ended here. A read that fails, as of a folder, is no end.
+pub fn ended<R: Read>(input: &mut R) -> bool
+    ensures { IsTrue result → IsAtEnd (R.remaining input.new) }
+{
     let mut one = [0u8; 1];
-    libc::read(fd, &mut one) == 0
+    match input.read(&mut one) {
+        Ok(n) => n == 0,
+        Err(_) => false,
+    }
 }
 
-// Opens the file that an argument names, or answers -1, also where there is no such argument.
-pub fn open_arg(i: usize) -> i32 {
-    let mut path = io::buffer();
-    let n = os::arg(i, &mut path);
-    if os::errno() != 0 {
-        return -1;
-    }
-    os::open_read(&path[..n])
+// Opens the file that an argument names. There is none where the file cannot be opened or its name is no text, nor where there is no such argument.
+pub fn open_arg<R: Env + Files>(rt: &R, i: usize) -> Option<R::File> {
+    let mut path = [0u8; 4096];
+    let n = rt.arg(i, &mut path).ok()?;
+    let path = str::from_utf8(&path[..n]).ok()?;
+    File::open(rt, path).ok()
 }
