@@ -5,6 +5,8 @@
 
 use dogwood_syntax::Tokenized;
 use files::{letters, open_arg, put_answer, put_text, read_part, word};
+use std::io;
+use std::io::{Read, Write};
 
 const LONGEST: usize = 1048576;
 
@@ -39,63 +41,68 @@ fn answer_of(t: Tokenized) -> Answer {
     }
 }
 
-fn run(source: &[u8], table: &mut [u32]) {
+fn run<W: Write>(source: &[u8], table: &mut [u32], out: &mut W) -> io::Result<()> {
     let a = answer_of(dogwood_syntax::tokenize(source, table));
-    put_answer(a.number, a.value, table);
+    put_answer(out, a.number, a.value, table)
 }
 
-fn run_too_long(source: &[u8; 1048577], table: &mut [u32]) {
-    run(source, table);
+fn run_too_long<W: Write>(
+    source: &[u8; 1048577],
+    table: &mut [u32],
+    out: &mut W,
+) -> io::Result<()> {
+    run(source, table, out)
 }
 
-fn run_longest(source: &[u8; 1048577], table: &mut [u32]) {
+fn run_longest<W: Write>(source: &[u8; 1048577], table: &mut [u32], out: &mut W) -> io::Result<()> {
     let all: &[u8] = source;
-    run(&all[1..], table);
+    run(&all[1..], table, out)
 }
 
-fn run_letters(size: usize, table: &mut [u32]) {
+fn run_letters<W: Write>(size: usize, table: &mut [u32], out: &mut W) -> io::Result<()> {
     let source = letters();
     if size == LONGEST {
-        run_longest(&source, table);
+        run_longest(&source, table, out)
     } else {
-        run_too_long(&source, table);
+        run_too_long(&source, table, out)
     }
 }
 
 // Reads one record and runs it; answers false where there is none.
-fn one(fd: i32) -> bool {
+fn one<R: Read, W: Write>(input: &mut R, out: &mut W) -> io::Result<bool> {
     let mut head = [0u8; 8];
-    if read_part(fd, &mut head, 8) != 8 {
-        return false;
+    if read_part(input, &mut head, 8) != 8 {
+        return Ok(false);
     }
     let size = word(&head, 0) as usize;
     let room = word(&head, 4) as usize;
     let mut table = [4294967295u32; 12291];
     if 12291 < room {
-        return false;
+        return Ok(false);
     }
     if LONGEST <= size {
-        run_letters(size, &mut table[0..room]);
-        return true;
+        run_letters(size, &mut table[0..room], out)?;
+        return Ok(true);
     }
-    let mut source = io::buffer();
-    let n = read_part(fd, &mut source, size);
-    run(&source[..n], &mut table[0..room]);
-    true
+    let mut source = [0u8; 4096];
+    let n = read_part(input, &mut source, size);
+    run(&source[..n], &mut table[0..room], out)?;
+    Ok(true)
 }
 
-fn all(fd: i32) {
-    let mut turns = u64::MAX;
-    while turns > 0 && one(fd) {
-        turns -= 1;
+fn all<R: Read, W: Write>(input: &mut R, out: &mut W) -> io::Result<()> {
+    for _ in 0..u64::MAX {
+        if !one(input, out)? {
+            break;
+        }
     }
+    Ok(())
 }
 
-fn main() {
-    let fd = open_arg(1);
-    if fd < 0 {
-        put_text(b"no records\n");
-        return;
+fn main(rt: HostRuntime) -> io::Result<()> {
+    let mut out = io::writer(&rt);
+    match open_arg(&rt, 1) {
+        Some(mut input) => all(&mut input, &mut out),
+        None => put_text(&mut out, b"no records\n"),
     }
-    all(fd);
 }
