@@ -1,4 +1,5 @@
 -- From what tokenising, judging and offering say to what the whole call answers.
+use Rattle.std.specs.Prelude.{if◌then◌else◌}
 use mathlib.Core.Path.{◌≡◌, refl, sym, ◌∙◌, ap, subst}
 use mathlib.Core.Bool.{Bool, true, false}
 use mathlib.Core.List.{List, []}
@@ -7,7 +8,6 @@ use native.Mathlib.Omega.{arith}
 use lib.Dec.{leb, ltb, eqb}
 use lib.ListN.{length, take, drop}
 use borrow.Author.Tests.{le-leb, lt-leb}
-use Rattle.dogwood_rules.specs.Basic.{if◌then◌else◌}
 use Rattle.dogwood_rules.specs.Utf8.{mark_of, text_of}
 use Rattle.dogwood_rules.specs.Token.{Placed, words_of}
 use Rattle.dogwood_rules.specs.Layout.{house}

@@ -1,4 +1,5 @@
 -- What is offered to an output: written whole, or not at all.
+use Rattle.std.specs.Prelude.{if◌then◌else◌}
 use mathlib.Core.Path.{◌≡◌, refl, sym, ◌∙◌, ap, subst}
 use mathlib.Core.Bool.{Bool, true, false, ◌&&◌}
 use mathlib.Core.List.{List, [], ◌∷◌, ◌++◌}
@@ -10,7 +11,6 @@ use borrow.Author.Tests.{le-leb, lt-leb, eqb-true}
 use borrow.Rule.Slice.PartMut.{put_mid}
 use Rattle.pen.specs.Over.{cap, Wrote, over as writtenOver}
 use Rattle.pen.proofs.Laws.{over-fits, over-part, length_over}
-use Rattle.dogwood_rules.specs.Basic.{if◌then◌else◌}
 use Rattle.dogwood_rules.specs.Utf8.{encode, marked, mark_of, text_of}
 use Rattle.dogwood_rules.specs.Outline.{statements}
 use Rattle.dogwood_rules.specs.File.{pieces, join_pieces}

@@ -1,7 +1,6 @@
 -- The numbers of document 01 for each answer, what stands beside them, and that they tell the answers apart.
-use Rattle.std.specs.Prelude.{◌≡◌, refl, List, ℕ, eqb}
+use Rattle.std.specs.Prelude.{◌≡◌, refl, List, ℕ, eqb, if◌then◌else◌}
 use Rattle.std.proofs.Common.{sym, ◌∙◌}
-use Rattle.dogwood_rules.specs.Basic.{if◌then◌else◌}
 use Rattle.dogwood_rules.specs.Layout.{house}
 use Rattle.dogwood_rules.specs.Promises.{Answered, answered-only}
 use Rattle.dogwood_formatter.specs.declared.format.Formatted.{Formatted}

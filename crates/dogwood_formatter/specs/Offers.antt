@@ -1,6 +1,5 @@
 -- Bytes that are written whole where there is room for them, and else not at all.
-use Rattle.std.specs.Prelude.{◌≡◌, List, ℕ, leb, length}
-use Rattle.dogwood_rules.specs.Basic.{if◌then◌else◌}
+use Rattle.std.specs.Prelude.{◌≡◌, List, ℕ, leb, length, if◌then◌else◌}
 use Rattle.dogwood_rules.specs.Promises.{over}
 
 -- r is how many bytes were offered to old, which is now new

@@ -1,6 +1,5 @@
 -- What is written under a number and a place, and what is said of it.
-use Rattle.std.specs.Prelude.{◌≡◌, List, ℕ, leb, length as count}
-use Rattle.dogwood_rules.specs.Basic.{if◌then◌else◌}
+use Rattle.std.specs.Prelude.{◌≡◌, List, ℕ, leb, length as count, if◌then◌else◌}
 use Rattle.dogwood_rules.specs.Utf8.{text_of}
 use Rattle.dogwood_rules.specs.Layout.{house}
 use Rattle.dogwood_rules.specs.Promises.{over}

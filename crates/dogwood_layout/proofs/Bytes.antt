@@ -1,4 +1,5 @@
 -- Code points and their bytes: tests on ASCII texts, widths and columns.
+use Rattle.std.specs.Prelude.{if◌then◌else◌}
 use mathlib.Core.Path.{◌≡◌, refl, sym, ◌∙◌, ap}
 use mathlib.Core.Bool.{Bool, true, false, ◌&&◌, ◌||◌}
 use mathlib.Core.List.{List, [], ◌∷◌, ◌++◌, append_assoc}
@@ -9,7 +10,7 @@ use lib.Dec.{leb, ltb, eqb}
 use lib.ListN.{length, take, get_or, length-append}
 use lib.Seq.{take-suc, take_all}
 use borrow.Author.Tests.{ltb-true, ltb-false, lt-ltb, le-ltb, le-leb, lt-leb, eq-eqb, ne_eqb}
-use Rattle.dogwood_rules.specs.Basic.{if◌then◌else◌, same}
+use Rattle.dogwood_rules.specs.Basic.{same}
 use Rattle.dogwood_rules.specs.Utf8.{bytes_of, later, encode}
 use Rattle.dogwood_rules.specs.Layout.{column}
 use Rattle.dogwood_layout.specs.declared.Span.{Span}

@@ -1,4 +1,5 @@
 -- What a file is made of, each behind the LFs that are due before it: how it is written piece by piece.
+use Rattle.std.specs.Prelude.{if◌then◌else◌}
 use mathlib.Core.Path.{◌≡◌, refl, sym, ◌∙◌, ap}
 use mathlib.Core.Bool.{Bool, true, false}
 use mathlib.Core.List.{List, [], ◌∷◌, ◌++◌, append-nil, append_assoc}
@@ -8,7 +9,7 @@ use lib.ListN.{length, take, drop, replicate}
 use borrow.Rule.Slice.PartMut.{put_mid}
 use Rattle.pen.specs.Over.{cap, Wrote}
 use Rattle.pen.proofs.Laws.{wrote_then, wrote-same}
-use Rattle.dogwood_rules.specs.Basic.{if◌then◌else◌, drop_back}
+use Rattle.dogwood_rules.specs.Basic.{drop_back}
 use Rattle.dogwood_rules.specs.Utf8.{bytes_of, encode}
 use Rattle.dogwood_rules.specs.Token.{Token, white}
 use Rattle.dogwood_rules.specs.Tree.{comment}

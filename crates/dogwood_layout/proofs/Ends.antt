@@ -1,4 +1,5 @@
 -- White space at the ends of a table: the loops, and the tokens that are left.
+use Rattle.std.specs.Prelude.{if◌then◌else◌}
 use mathlib.Core.Path.{◌≡◌, refl, sym, ◌∙◌, ap}
 use mathlib.Core.Bool.{Bool, true, false}
 use mathlib.Core.List.{List, [], ◌∷◌, ◌++◌}
@@ -8,7 +9,7 @@ use lib.Dec.{eqb}
 use lib.ListN.{length, take, drop, get_or, length-drop, drop_of_length-le}
 use lib.Seq.{take_all, take-append_seam}
 use borrow.Author.Tests.{eq-eqb, ne_eqb}
-use Rattle.dogwood_rules.specs.Basic.{if◌then◌else◌, drop_front, drop_back, or_drop, run_length}
+use Rattle.dogwood_rules.specs.Basic.{drop_front, drop_back, or_drop, run_length}
 use Rattle.dogwood_rules.specs.Tree.{blank}
 use Rattle.dogwood_layout.specs.View.{token_of, tokens, Holds}
 use Rattle.dogwood_layout.specs.Ends.{Whole, front_step, front_len, back_step, back_len, trimmed_of}

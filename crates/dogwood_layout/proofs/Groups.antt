@@ -1,4 +1,5 @@
 -- What one item, one piece and a broken group give, in the form in which they are written.
+use Rattle.std.specs.Prelude.{if◌then◌else◌}
 use mathlib.Core.Path.{◌≡◌, refl, sym, ◌∙◌, ap}
 use mathlib.Core.Bool.{Bool, true, false, ◌||◌}
 use mathlib.Core.List.{List, [], ◌∷◌, ◌++◌, append-nil}
@@ -7,7 +8,7 @@ use native.Mathlib.Omega.{arith}
 use lib.Dec.{eqb, leb}
 use lib.ListN.{length, replicate, length-append}
 use borrow.Author.Tests.{le-leb, lt-leb}
-use Rattle.dogwood_rules.specs.Basic.{if◌then◌else◌, same, trim}
+use Rattle.dogwood_rules.specs.Basic.{same, trim}
 use Rattle.dogwood_rules.specs.Token.{Token}
 use Rattle.dogwood_rules.specs.Tree.{blank, opener, closer, shown, joined, flat, Run, nothing, single, group, Items, end, item, tokens_of, items_of, run_of, add_item, tidy, several, trim_run, after_commas, before_and_ors}
 use Rattle.dogwood_rules.specs.Layout.{Settings, column, walk, lines, fit_or, fit_group, spaces, join_lines, empty, layout}

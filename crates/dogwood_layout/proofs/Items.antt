@@ -1,4 +1,5 @@
 -- The items of an inside, one after another: the first item of a shaped run and what is left of the run.
+use Rattle.std.specs.Prelude.{if◌then◌else◌}
 use mathlib.Core.Path.{◌≡◌, refl, sym, ◌∙◌, ap, subst}
 use mathlib.Core.Bool.{Bool, true, false, not, ◌&&◌, ◌||◌}
 use mathlib.Core.List.{List, [], ◌∷◌, ◌++◌, append_assoc}
@@ -7,7 +8,7 @@ use native.Mathlib.Omega.{arith}
 use lib.Dec.{eqb, ltb}
 use lib.ListN.{length, length-append}
 use borrow.Author.Tests.{ne_eqb, eqb-true, lt-ltb}
-use Rattle.dogwood_rules.specs.Basic.{if◌then◌else◌, same}
+use Rattle.dogwood_rules.specs.Basic.{same}
 use Rattle.dogwood_rules.specs.Token.{Token}
 use Rattle.dogwood_rules.specs.Tree.{comma, and_or, opener, closer, Run, nothing, single, group, Items, end, item, tokens_of, items_of, front, after_commas, before_and_ors, add_item, tidy, several, trim_run, trim_left, trim_right}
 use Rattle.dogwood_layout.specs.Shape.{Sound, Shaped, shaped_nothing, shaped_single, shaped_group}

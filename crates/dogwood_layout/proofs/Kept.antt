@@ -1,4 +1,5 @@
 -- A text without the white space at its right: the loop that finds where it ends, and its bytes.
+use Rattle.std.specs.Prelude.{if◌then◌else◌}
 use mathlib.Core.Path.{◌≡◌, refl, sym, ◌∙◌, ap}
 use mathlib.Core.Bool.{Bool, true, false, not}
 use mathlib.Core.List.{List, [], ◌∷◌, ◌++◌, append-nil, append_assoc}
@@ -7,7 +8,7 @@ use Prim.Native.Nat.{ℕ, suc, ◌+◌, ◌-◌, ◌<◌, ◌≤◌}
 use native.Mathlib.Omega.{arith}
 use lib.ListN.{length, take, drop, get_or, length-append, length-drop, drop_of_length-le}
 use lib.Seq.{drop-cons, drop-drop, take-append_seam}
-use Rattle.dogwood_rules.specs.Basic.{if◌then◌else◌, or_drop, drop_back, cut, cut_after}
+use Rattle.dogwood_rules.specs.Basic.{or_drop, drop_back, cut, cut_after}
 use Rattle.dogwood_rules.specs.Utf8.{bytes_of, character, encode, decode, byte_length}
 use Rattle.dogwood_rules.specs.Token.{white}
 use Rattle.dogwood_rules.proofs.Below.{not_true}

@@ -1,4 +1,5 @@
 -- What each writer of the layout gives: a run, an item, a piece, a broken group.
+use Rattle.std.specs.Prelude.{if◌then◌else◌}
 use mathlib.Core.Path.{◌≡◌, refl, sym, ◌∙◌, ap, subst}
 use mathlib.Core.Bool.{Bool, true, false, ◌||◌}
 use mathlib.Core.List.{List, [], ◌∷◌, ◌++◌, append_assoc}
@@ -10,7 +11,7 @@ use lib.ListN.{length, take, drop, replicate, length-append}
 use borrow.Author.Tests.{eqb-true, eqb-false, leb-true, leb-false, le-leb, lt-leb}
 use Rattle.pen.specs.Over.{Wrote}
 use Rattle.pen.proofs.Laws.{wrote-same}
-use Rattle.dogwood_rules.specs.Basic.{if◌then◌else◌, trim, run_length}
+use Rattle.dogwood_rules.specs.Basic.{trim, run_length}
 use Rattle.dogwood_rules.specs.Utf8.{bytes_of, encode}
 use Rattle.dogwood_rules.specs.Token.{Token}
 use Rattle.dogwood_rules.specs.Tree.{blank, shown, joined, Run, nothing, group, Items, tokens_of, items_of, run_of, trim_run}

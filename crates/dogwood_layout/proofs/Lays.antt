@@ -1,4 +1,5 @@
 -- Where the two loops of the layout stand, and the parts of a run.
+use Rattle.std.specs.Prelude.{if◌then◌else◌}
 use mathlib.Core.Path.{◌≡◌, refl, sym, ◌∙◌, ap, subst}
 use mathlib.Core.Bool.{Bool}
 use mathlib.Core.List.{List, [], ◌∷◌, ◌++◌, append-nil, append_assoc}
@@ -9,7 +10,7 @@ use lib.Seq.{take-append_seam, drop-append_seam}
 use borrow.Rule.Slice.PartMut.{put_mid}
 use Rattle.pen.specs.Over.{cap, Wrote}
 use Rattle.pen.proofs.Laws.{wrote_then, wrote-nil, wrote-same}
-use Rattle.dogwood_rules.specs.Basic.{if◌then◌else◌, drop_back}
+use Rattle.dogwood_rules.specs.Basic.{drop_back}
 use Rattle.dogwood_rules.specs.Utf8.{encode}
 use Rattle.dogwood_rules.specs.Token.{Token}
 use Rattle.dogwood_rules.specs.Tree.{blank, joined, flat, items_of, Run, nothing, single, group, Items, end, tokens_of, run_of, add_item, tidy, trim_run, trim_left, trim_right}

@@ -1,4 +1,5 @@
 -- A layout is so short that no count of its bytes reaches the cap.
+use Rattle.std.specs.Prelude.{if◌then◌else◌}
 use mathlib.Core.Path.{◌≡◌, refl, sym, ◌∙◌, ap, subst}
 use mathlib.Core.Bool.{Bool, true, false}
 use mathlib.Core.List.{List, [], ◌∷◌, ◌++◌}
@@ -8,7 +9,7 @@ use lib.Dec.{eqb, leb}
 use lib.ListN.{length, length-append, length-replicate}
 use borrow.Author.Tests.{eqb-true, eqb-false}
 use Rattle.pen.specs.Over.{cap, Wrote}
-use Rattle.dogwood_rules.specs.Basic.{if◌then◌else◌, trim, run_length}
+use Rattle.dogwood_rules.specs.Basic.{trim, run_length}
 use Rattle.dogwood_rules.specs.Utf8.{bytes_of, encode}
 use Rattle.dogwood_rules.specs.Token.{Token}
 use Rattle.dogwood_rules.specs.Tree.{blank, shown, joined, Run, nothing, single, group, Items, tokens_of, run_of, add_item, tidy, trim_run, trim_left, trim_right}

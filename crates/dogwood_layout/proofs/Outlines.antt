@@ -1,4 +1,5 @@
 -- A file's statements by its outline, with the comments around them, written one after the other.
+use Rattle.std.specs.Prelude.{if◌then◌else◌}
 use mathlib.Core.Path.{◌≡◌, refl, sym, ◌∙◌, ap, subst}
 use mathlib.Core.Bool.{Bool, true, false}
 use mathlib.Core.List.{List, [], ◌∷◌, ◌++◌, append_assoc}
@@ -11,7 +12,7 @@ use lib.Seq.{drop-cons, drop-drop}
 use borrow.Rule.Slice.PartMut.{put_mid}
 use Rattle.pen.specs.Over.{cap, Wrote}
 use Rattle.pen.proofs.Laws.{wrote-nil, wrote-same}
-use Rattle.dogwood_rules.specs.Basic.{if◌then◌else◌, cut, cut_after}
+use Rattle.dogwood_rules.specs.Basic.{cut, cut_after}
 use Rattle.dogwood_rules.specs.Utf8.{encode}
 use Rattle.dogwood_rules.specs.Token.{Token, tokens as tokens_at}
 use Rattle.dogwood_rules.specs.Tree.{comment}

@@ -1,4 +1,5 @@
 -- A table without the white space at its ends, and a group without its brackets.
+use Rattle.std.specs.Prelude.{if◌then◌else◌}
 use mathlib.Core.Path.{◌≡◌, refl, sym, ◌∙◌, ap, subst}
 use mathlib.Core.Bool.{Bool, true, false}
 use mathlib.Core.List.{List, [], ◌∷◌, ◌++◌}
@@ -8,7 +9,7 @@ use lib.ListN.{length, take, drop, length-append, length-take, length-drop}
 use lib.Seq.{take-append_seam, drop-append_seam, drop-drop}
 use lib.Dec.{ltb}
 use borrow.Author.Tests.{ltb-true, ltb-false}
-use Rattle.dogwood_rules.specs.Basic.{if◌then◌else◌, drop_back, trim, run_length}
+use Rattle.dogwood_rules.specs.Basic.{drop_back, trim, run_length}
 use Rattle.dogwood_rules.specs.Token.{Token}
 use Rattle.dogwood_rules.specs.Tree.{blank, opener, closer, shown, joined, flat, Run, nothing, group, tokens_of, items_of, run_of, trim_run}
 use Rattle.dogwood_rules.specs.Layout.{empty}

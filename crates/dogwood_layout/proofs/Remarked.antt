@@ -1,4 +1,5 @@
 -- The comments of a table, written one after the other.
+use Rattle.std.specs.Prelude.{if◌then◌else◌}
 use mathlib.Core.Path.{◌≡◌, refl, sym, ◌∙◌, ap}
 use mathlib.Core.Bool.{Bool, true, false}
 use mathlib.Core.List.{List, [], ◌∷◌, ◌++◌, append-nil, append_assoc}
@@ -11,7 +12,7 @@ use borrow.Author.Tests.{eq-eqb, ne_eqb, eqb-true}
 use borrow.Rule.Slice.PartMut.{put_mid}
 use Rattle.pen.specs.Over.{cap, Wrote}
 use Rattle.pen.proofs.Laws.{wrote-nil, wrote-same}
-use Rattle.dogwood_rules.specs.Basic.{if◌then◌else◌, drop_back}
+use Rattle.dogwood_rules.specs.Basic.{drop_back}
 use Rattle.dogwood_rules.specs.Utf8.{encode, decode, byte_length}
 use Rattle.dogwood_rules.specs.Token.{Token, Whitespace, Comment, String, Identifier, Number, Symbol, Other, white}
 use Rattle.dogwood_rules.specs.Tree.{comment, is_comment}

@@ -1,4 +1,5 @@
 -- Which set decides: where the loops over the sets and over the items stand.
+use Rattle.std.specs.Prelude.{if◌then◌else◌}
 use mathlib.Core.Path.{◌≡◌, refl, sym, ◌∙◌, ap, subst}
 use mathlib.Core.Bool.{Bool, true, false}
 use mathlib.Core.List.{List, [], ◌∷◌}
@@ -8,7 +9,7 @@ use lib.Dec.{eqb, ltb}
 use lib.ListN.{length, take, drop, length-append, length-drop}
 use lib.Seq.{take-append_seam, drop-append_seam}
 use borrow.Author.Tests.{eqb-true, eqb-false, lt-ltb, le-ltb, ltb-true, ltb-false}
-use Rattle.dogwood_rules.specs.Basic.{if◌then◌else◌, drop_back, trim, run_length}
+use Rattle.dogwood_rules.specs.Basic.{drop_back, trim, run_length}
 use Rattle.dogwood_rules.specs.Token.{Token}
 use Rattle.dogwood_rules.specs.Tree.{blank, Run, nothing, single, group, Items, tokens_of, run_of, add_item, tidy, several, trim_run, trim_left, trim_right}
 use Rattle.dogwood_rules.proofs.Trim.{front_drops, front_keeps, back_keeps}

@@ -1,4 +1,5 @@
 -- A statement's parts, laid out one after the other.
+use Rattle.std.specs.Prelude.{if◌then◌else◌}
 use mathlib.Core.Path.{◌≡◌, refl, sym, ◌∙◌, ap, subst}
 use mathlib.Core.Bool.{Bool, true, false}
 use mathlib.Core.List.{List, [], ◌∷◌, ◌++◌, append-nil, append_assoc}
@@ -12,7 +13,7 @@ use borrow.Author.Tests.{ltb-true, ltb-false}
 use borrow.Rule.Slice.PartMut.{put_mid}
 use Rattle.pen.specs.Over.{cap, Wrote}
 use Rattle.pen.proofs.Laws.{wrote-nil, wrote-same}
-use Rattle.dogwood_rules.specs.Basic.{if◌then◌else◌, trim, run_length}
+use Rattle.dogwood_rules.specs.Basic.{trim, run_length}
 use Rattle.dogwood_rules.specs.Utf8.{encode}
 use Rattle.dogwood_rules.specs.Token.{Token, Placed, spell, tokens as tokens_at}
 use Rattle.dogwood_rules.specs.Tree.{blank, joined, nothing, tokens_of, run_of, trim_run}

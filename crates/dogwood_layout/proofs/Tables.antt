@@ -1,4 +1,5 @@
 -- Laws of the view of a table: its parts, and what an entry's token says.
+use Rattle.std.specs.Prelude.{if◌then◌else◌}
 use mathlib.Core.Path.{◌≡◌, refl, sym, ◌∙◌, ap, subst}
 use mathlib.Core.Bool.{Bool, true, false, ◌&&◌}
 use mathlib.Core.List.{List, [], ◌∷◌}
@@ -9,7 +10,7 @@ use lib.Dec.{eqb}
 use lib.ListN.{length, take, drop, get_or, length-take, length-drop, drop_of_length-le}
 use lib.Seq.{drop-cons, take_all, take-nil, drop-nil, drop-drop}
 use borrow.Author.Tests.{eq-eqb, ne_eqb}
-use Rattle.dogwood_rules.specs.Basic.{if◌then◌else◌, same}
+use Rattle.dogwood_rules.specs.Basic.{same}
 use Rattle.dogwood_rules.specs.Utf8.{encode}
 use Rattle.dogwood_rules.specs.Token.{Token, Whitespace, Comment, String, Identifier, Number, Symbol, Other}
 use Rattle.dogwood_rules.specs.Tree.{blank, is_whitespace, shown}

@@ -1,4 +1,5 @@
 -- The layout of a whole file is so short that no count of its bytes reaches the cap.
+use Rattle.std.specs.Prelude.{if◌then◌else◌}
 use mathlib.Core.Path.{◌≡◌, refl, sym, ◌∙◌, ap, subst}
 use mathlib.Core.Bool.{Bool, true, false}
 use mathlib.Core.List.{List, [], ◌∷◌, ◌++◌, append-nil}
@@ -6,7 +7,7 @@ use Prim.Native.Nat.{ℕ, ◌+◌, ◌-◌, ◌*◌, ◌<◌, ◌≤◌}
 use native.Mathlib.Omega.{arith}
 use lib.ListN.{length, replicate, length-append, length-replicate}
 use Rattle.pen.specs.Over.{cap, Wrote}
-use Rattle.dogwood_rules.specs.Basic.{if◌then◌else◌, drop_back}
+use Rattle.dogwood_rules.specs.Basic.{drop_back}
 use Rattle.dogwood_rules.specs.Utf8.{encode}
 use Rattle.dogwood_rules.specs.Token.{Token, Kind, Whitespace, Comment, String, Identifier, Number, Symbol, Other, Placed, white, tokens as tokens_at}
 use Rattle.dogwood_rules.specs.Tree.{blank, comment, is_whitespace, is_comment, shown}

@@ -1,10 +1,11 @@
 -- White space at the ends: dropping it from the tokens of a tree, and from what the walk writes, is the same.
+use Rattle.std.specs.Prelude.{if◌then◌else◌}
 use mathlib.Core.Path.{◌≡◌, refl, sym, ◌∙◌, ap}
 use mathlib.Core.Bool.{Bool, true, false}
 use mathlib.Core.List.{List, [], ◌∷◌, ◌++◌}
 use Prim.Native.Nat.{ℕ, suc}
 use native.Mathlib.Omega.{arith}
-use Rattle.dogwood_rules.specs.Basic.{if◌then◌else◌, drop_front, drop_back, or_drop, trim, run_length}
+use Rattle.dogwood_rules.specs.Basic.{drop_front, drop_back, or_drop, trim, run_length}
 use Rattle.dogwood_rules.specs.Token.{Token}
 use Rattle.dogwood_rules.specs.Tree.{blank, opener, closer, Run, nothing, single, group, tokens_of, trim_left, trim_right, or_nothing, trim_run}
 use Rattle.dogwood_rules.proofs.Trim.{front_drops, front_keeps, back_keeps}

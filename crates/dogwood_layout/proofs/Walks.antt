@@ -1,4 +1,5 @@
 -- The walk over a run: white space at its ends, and the layout by the trimmed run.
+use Rattle.std.specs.Prelude.{if◌then◌else◌}
 use mathlib.Core.Path.{◌≡◌, refl, sym, ◌∙◌, ap}
 use mathlib.Core.Bool.{Bool, true, false, ◌||◌}
 use mathlib.Core.List.{List, [], ◌∷◌, ◌++◌, append-nil, append_assoc}
@@ -6,7 +7,7 @@ use Prim.Native.Nat.{ℕ, suc, ◌+◌, ◌*◌}
 use native.Mathlib.Omega.{arith}
 use lib.Dec.{leb}
 use lib.ListN.{length}
-use Rattle.dogwood_rules.specs.Basic.{if◌then◌else◌, drop_front, drop_back, or_drop, trim, run_length}
+use Rattle.dogwood_rules.specs.Basic.{drop_front, drop_back, or_drop, trim, run_length}
 use Rattle.dogwood_rules.specs.Token.{Token, white}
 use Rattle.dogwood_rules.specs.Tree.{blank, shown, joined, flat, Run, nothing, single, group, tokens_of, items_of, trim_left, trim_right, or_nothing, trim_run, run_of}
 use Rattle.dogwood_rules.specs.Layout.{Settings, column, walk, lines, fit_or, fit_group, spaces, following, join_lines, empty, layout}

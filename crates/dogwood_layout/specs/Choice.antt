@@ -1,6 +1,5 @@
 -- The items that a separator set cuts a run into, and the set that decides.
-use Rattle.std.specs.Prelude.{Bool, List, ℕ, ◌*◌, ltb, length}
-use Rattle.dogwood_rules.specs.Basic.{if◌then◌else◌}
+use Rattle.std.specs.Prelude.{Bool, List, ℕ, ◌*◌, ltb, length, if◌then◌else◌}
 use Rattle.dogwood_rules.specs.Token.{Token}
 use Rattle.dogwood_rules.specs.Tree.{Run, nothing, single, group, Items, end, item, front, tidy, several}
 use Rattle.dogwood_layout.specs.Ends.{front_len}

@@ -1,7 +1,7 @@
 -- What a file is made of, each behind the LFs that are due before it.
-use Rattle.std.specs.Prelude.{◌≡◌, List, [], ◌∷◌, ◌++◌, ℕ, replicate}
+use Rattle.std.specs.Prelude.{◌≡◌, List, [], ◌∷◌, ◌++◌, ℕ, replicate, if◌then◌else◌}
 use Rattle.pen.specs.Over.{Wrote, wrote_only}
-use Rattle.dogwood_rules.specs.Basic.{if◌then◌else◌, drop_back}
+use Rattle.dogwood_rules.specs.Basic.{drop_back}
 use Rattle.dogwood_rules.specs.Utf8.{encode}
 use Rattle.dogwood_rules.specs.Token.{Token, white}
 use Rattle.dogwood_rules.specs.Tree.{comment}

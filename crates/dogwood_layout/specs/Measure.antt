@@ -1,6 +1,5 @@
 -- The width of a text and the column behind it, told together, and byte by byte.
-use Rattle.std.specs.Prelude.{◌||◌, List, [], ◌∷◌, ℕ, ◌+◌, eqb, ltb, leb, length}
-use Rattle.dogwood_rules.specs.Basic.{if◌then◌else◌}
+use Rattle.std.specs.Prelude.{◌||◌, List, [], ◌∷◌, ℕ, ◌+◌, eqb, ltb, leb, length, if◌then◌else◌}
 use Rattle.dogwood_rules.specs.Layout.{column}
 use Rattle.dogwood_layout.specs.declared.Span.{Span}
 

@@ -1,7 +1,7 @@
 -- The settings of a page, what keeps its counts small, and the pieces that a run is walked by.
-use Rattle.std.specs.Prelude.{◌≡◌, List, [], ◌∷◌, ◌++◌, ℕ, suc, ◌+◌, ◌≤◌, length}
+use Rattle.std.specs.Prelude.{◌≡◌, List, [], ◌∷◌, ◌++◌, ℕ, suc, ◌+◌, ◌≤◌, length, if◌then◌else◌}
 use Rattle.pen.specs.Over.{over, Wrote}
-use Rattle.dogwood_rules.specs.Basic.{if◌then◌else◌, drop_back, trim}
+use Rattle.dogwood_rules.specs.Basic.{drop_back, trim}
 use Rattle.dogwood_rules.specs.Utf8.{encode}
 use Rattle.dogwood_rules.specs.Token.{Token}
 use Rattle.dogwood_rules.specs.Tree.{blank, opener, shown, joined, Run, nothing, single, group, Items, end, add_item, trim_run, tidy}

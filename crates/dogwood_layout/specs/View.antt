@@ -1,6 +1,5 @@
 -- A part of the token table, three words a token, seen as the tokens that it stands for in a text.
-use Rattle.std.specs.Prelude.{◌≡◌, List, [], ◌∷◌, ℕ, ◌+◌, ◌-◌, ◌≤◌, eqb, length, take, drop, get_or}
-use Rattle.dogwood_rules.specs.Basic.{if◌then◌else◌}
+use Rattle.std.specs.Prelude.{◌≡◌, List, [], ◌∷◌, ℕ, ◌+◌, ◌-◌, ◌≤◌, eqb, length, take, drop, get_or, if◌then◌else◌}
 use Rattle.dogwood_rules.specs.Utf8.{encode, decode}
 use Rattle.dogwood_rules.specs.Token.{Token, Kind, Whitespace, Comment, String, Identifier, Number, Symbol, Other}
 use Rattle.dogwood_layout.specs.declared.Entry.{Entry}

@@ -1,4 +1,5 @@
 -- What a verdict says for the whole call: the answer with its number and place, and what holds where there is none of 4, 2, 3 and 5.
+use Rattle.std.specs.Prelude.{if◌then◌else◌}
 use mathlib.Core.Path.{◌≡◌, refl, sym, ◌∙◌, ap}
 use mathlib.Core.Bool.{Bool, true, false}
 use mathlib.Core.List.{List, [], ◌∷◌, ◌++◌}
@@ -8,7 +9,6 @@ use native.Mathlib.Omega.{arith}
 use lib.Dec.{eqb}
 use lib.ListN.{length}
 use borrow.Author.Tests.{le-ltb}
-use Rattle.dogwood_rules.specs.Basic.{if◌then◌else◌}
 use Rattle.dogwood_rules.specs.Utf8.{encode, mark_of, text_of}
 use Rattle.dogwood_rules.specs.Token.{Placed, words_of}
 use Rattle.dogwood_rules.specs.Source.{cut_into, source_of}

@@ -1,4 +1,5 @@
 -- What is judged by a table, case by case.
+use Rattle.std.specs.Prelude.{if◌then◌else◌}
 use mathlib.Core.Path.{◌≡◌, refl, sym, ◌∙◌, ap}
 use mathlib.Core.Bool.{Bool, true, false, ◌&&◌}
 use mathlib.Core.List.{List}
@@ -7,7 +8,6 @@ use Prim.Native.Nat.{ℕ}
 use lib.Dec.{eqb}
 use lib.ListN.{length}
 use Rattle.utf8.specs.declared.Found.TheVariants.{At, Nothing}
-use Rattle.dogwood_rules.specs.Basic.{if◌then◌else◌}
 use Rattle.dogwood_rules.specs.Outline.{statements}
 use Rattle.dogwood_outline.specs.Judges.{JudgesIn}
 use Rattle.dogwood_words.specs.Search.{found_of, absent}

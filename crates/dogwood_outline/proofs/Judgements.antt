@@ -1,4 +1,5 @@
 -- A table that has the words of a text's tokens: what is judged by it is what the rules answer.
+use Rattle.std.specs.Prelude.{if◌then◌else◌}
 use mathlib.Core.Path.{◌≡◌, refl, sym, ◌∙◌, ap}
 use mathlib.Core.Bool.{Bool, true, false, ◌&&◌}
 use mathlib.Core.List.{List, [], ◌∷◌}
@@ -7,7 +8,6 @@ use Prim.Native.Nat.{ℕ}
 use native.Mathlib.Omega.{arith}
 use lib.Dec.{eqb}
 use lib.ListN.{length, get_or}
-use Rattle.dogwood_rules.specs.Basic.{if◌then◌else◌}
 use Rattle.dogwood_rules.specs.Token.{Placed, kind_number, words_of}
 use Rattle.dogwood_rules.specs.Outline.{statements, fits}
 use Rattle.dogwood_rules.specs.File.{Piece, pieces}

@@ -1,4 +1,5 @@
 -- A table that has the words of some tokens: the walks over it say what the rules say of the tokens.
+use Rattle.std.specs.Prelude.{if◌then◌else◌}
 use mathlib.Core.Path.{◌≡◌, refl, sym, ◌∙◌, ap, subst}
 use mathlib.Core.Bool.{Bool, true, false, not, ◌&&◌, ◌||◌}
 use mathlib.Core.List.{List, [], ◌∷◌}
@@ -9,7 +10,7 @@ use lib.Dec.{leb, ltb, eqb}
 use lib.ListN.{length, get_or, drop}
 use lib.Seq.{drop-drop}
 use borrow.Author.Tests.{eqb-true, eqb-false, lt-ltb, le-ltb}
-use Rattle.dogwood_rules.specs.Basic.{if◌then◌else◌, every, some?}
+use Rattle.dogwood_rules.specs.Basic.{every, some?}
 use Rattle.dogwood_rules.specs.Token.{Token, Kind, Whitespace, Comment, String, Identifier, Number, Symbol, Other, Placed, kind_number, tokens, words_of}
 use Rattle.dogwood_rules.specs.Tree.{blank, comment, is_whitespace, is_comment, opener, closer}
 use Rattle.dogwood_rules.specs.Outline.{Span, Statement, up_to, from, plain, balanced, kind_ok, within, beyond}

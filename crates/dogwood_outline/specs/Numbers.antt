@@ -1,7 +1,6 @@
 -- The numbers of document 01 for each answer, and that they tell the answers apart.
-use Rattle.std.specs.Prelude.{ℕ, ◌≡◌, refl, List, eqb}
+use Rattle.std.specs.Prelude.{ℕ, ◌≡◌, refl, List, eqb, if◌then◌else◌}
 use Rattle.std.proofs.Common.{sym, ◌∙◌}
-use Rattle.dogwood_rules.specs.Basic.{if◌then◌else◌}
 use Rattle.dogwood_rules.specs.Promises.{Tests, tests-only}
 use Rattle.dogwood_outline.specs.declared.testing.Tested.{Tested}
 use Rattle.dogwood_outline.specs.declared.testing.Tested.TheVariants.{Fits, Unended, Misfit, TooLong, NotUtf8, Small}

@@ -1,8 +1,7 @@
 -- The test of fit as a walk over the words of a token table, and the verdict by it and by the searches. How the code works, on any words; what it means stands in dogwood_rules, and
 -- proofs/Tabled ties the two for the words of a text's tokens.
-use Rattle.std.specs.Prelude.{Bool, false, not, ◌&&◌, ◌||◌, List, [], ◌∷◌, ℕ, ltb, eqb, length, drop}
+use Rattle.std.specs.Prelude.{Bool, false, not, ◌&&◌, ◌||◌, List, [], ◌∷◌, ℕ, ltb, eqb, length, drop, if◌then◌else◌}
 use Rattle.std.proofs.Math.Option.{none, some}
-use Rattle.dogwood_rules.specs.Basic.{if◌then◌else◌}
 use Rattle.dogwood_rules.specs.Outline.{Span, Statement, statements, kind_ok}
 use Rattle.dogwood_words.specs.Rows.{skip_in, gap_in, part_in}
 use Rattle.dogwood_words.specs.Search.{absent}

@@ -1,7 +1,6 @@
 -- What `judge` promises: numbers 4, 2, 3 and 5 of document 01 in this order, else 0.
-use Rattle.std.specs.Prelude.{◌≡◌, refl, List, [], ◌∷◌, ℕ, eqb, length}
+use Rattle.std.specs.Prelude.{◌≡◌, refl, List, [], ◌∷◌, ℕ, eqb, length, if◌then◌else◌}
 use Rattle.std.proofs.Math.Option.{Option, none, some}
-use Rattle.dogwood_rules.specs.Basic.{if◌then◌else◌}
 use Rattle.dogwood_rules.specs.Token.{Placed}
 use Rattle.dogwood_rules.specs.Outline.{statements, fits}
 use Rattle.dogwood_rules.specs.File.{Piece, pieces}

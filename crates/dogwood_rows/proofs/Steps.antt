@@ -1,4 +1,5 @@
 -- What a step of the cursor says of the rows. All that a walk needs; no walk counts words itself.
+use Rattle.std.specs.Prelude.{if◌then◌else◌}
 use mathlib.Core.Path.{◌≡◌, refl, sym, ◌∙◌, ap}
 use mathlib.Core.Bool.{Bool, true, false}
 use mathlib.Core.List.{List, [], ◌∷◌}
@@ -9,7 +10,6 @@ use lib.Dec.{leb, ltb}
 use lib.ListN.{length, get_or, drop, length-drop}
 use lib.Seq.{drop-cons}
 use borrow.Author.Tests.{leb-true, leb-false, ltb-true, ltb-false, lt-ltb, le-ltb}
-use Rattle.dogwood_rules.specs.Basic.{if◌then◌else◌}
 use Rattle.dogwood_rules.specs.Token.{row_size}
 use Rattle.dogwood_rows.specs.declared.cursor.Step.{Step}
 use Rattle.dogwood_rows.specs.declared.cursor.Step.TheVariants.{Row, Ended}

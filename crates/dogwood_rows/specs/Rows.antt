@@ -1,6 +1,5 @@
 -- The rows of any words; words left over at the end are no row. A place is a number of words.
-use Rattle.std.specs.Prelude.{List, [], ◌∷◌, ℕ, ◌+◌, ◌-◌, ◌*◌, ltb, length, take, drop}
-use Rattle.dogwood_rules.specs.Basic.{if◌then◌else◌}
+use Rattle.std.specs.Prelude.{List, [], ◌∷◌, ℕ, ◌+◌, ◌-◌, ◌*◌, ltb, length, take, drop, if◌then◌else◌}
 use Rattle.dogwood_rules.specs.Token.{row_size}
 use Rattle.dogwood_rows.specs.declared.cursor.Step.{Step}
 use Rattle.dogwood_rows.specs.declared.cursor.Step.TheVariants.{Row, Ended}

@@ -1,4 +1,5 @@
 -- A source that is cut into tokens is UTF-8, and its text is made up of them.
+use Rattle.std.specs.Prelude.{if◌then◌else◌}
 use mathlib.Core.Path.{◌≡◌, refl, sym, ◌∙◌, ap, subst}
 use mathlib.Core.Bool.{Bool, true, false}
 use mathlib.Core.List.{List, [], ◌∷◌, ◌++◌, append-nil}
@@ -8,7 +9,6 @@ use native.Mathlib.Omega.{arith}
 use lib.Dec.{ltb, eqb}
 use lib.ListN.{length, length-append}
 use borrow.Author.Tests.{eqb-true}
-use Rattle.dogwood_rules.specs.Basic.{if◌then◌else◌}
 use Rattle.dogwood_rules.specs.Utf8.{size, bytes_of, encode, byte_length, decode, text_of}
 use Rattle.dogwood_rules.specs.Token.{Token, Placed, tokenise, placed, spell, Tiled, tiled_end, tiled_more}
 use Rattle.dogwood_rules.specs.Source.{Source, too_long, not_utf8, unended, cut_into, cut_up, decoded, source_of}

@@ -1,8 +1,7 @@
 -- The two smaller calls.
 -- 01: "Also public: tokenising alone (11, 12, 1, 13 in that order, else 0 with the token total) and testing an outline alone (the same, then 4, else 0),
 -- both treating the token table as the full call does."
-use Rattle.std.specs.Prelude.{List, [], ℕ, ◌*◌, ltb, length}
-use Rattle.dogwood_rules.specs.Basic.{if◌then◌else◌}
+use Rattle.std.specs.Prelude.{List, [], ℕ, ◌*◌, ltb, length, if◌then◌else◌}
 use Rattle.dogwood_rules.specs.Utf8.{text_of}
 use Rattle.dogwood_rules.specs.Token.{Placed, row_size, words_of}
 use Rattle.dogwood_rules.specs.Source.{Source, too_long, not_utf8, unended, cut_into, source_of}

@@ -1,6 +1,5 @@
 -- What is claimed of the layout: number 3 of the mission, and what follows from it for two sources.
-use Rattle.std.specs.Prelude.{◌≡◌, List, [], ◌∷◌, ◌++◌, ℕ, length, drop}
-use Rattle.dogwood_rules.specs.Basic.{if◌then◌else◌}
+use Rattle.std.specs.Prelude.{◌≡◌, List, [], ◌∷◌, ◌++◌, ℕ, length, drop, if◌then◌else◌}
 use Rattle.dogwood_rules.specs.Utf8.{decode, encode, marked, mark_of, text_of}
 use Rattle.dogwood_rules.specs.Token.{Token, tokenise, placed}
 use Rattle.dogwood_rules.specs.Tree.{blank}

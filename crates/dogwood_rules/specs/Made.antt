@@ -1,7 +1,7 @@
 -- What a layout is made of, white space included: the layout once more, as tokens. Each definition goes by the tests of its counterpart in Layout and
 -- File, and a law says that it spells that layout (proofs/Spelt).
-use Rattle.std.specs.Prelude.{true, false, ◌||◌, List, [], ◌∷◌, ◌++◌, ℕ, suc, ◌+◌, ◌*◌, leb, length, replicate}
-use Rattle.dogwood_rules.specs.Basic.{if◌then◌else◌, drop_back, trim}
+use Rattle.std.specs.Prelude.{true, false, ◌||◌, List, [], ◌∷◌, ◌++◌, ℕ, suc, ◌+◌, ◌*◌, leb, length, replicate, if◌then◌else◌}
+use Rattle.dogwood_rules.specs.Basic.{drop_back, trim}
 use Rattle.dogwood_rules.specs.Token.{Token, Whitespace, white}
 use Rattle.dogwood_rules.specs.Tree.{blank, comment, shown, flat, Run, nothing, single, group, Items, end, item, tokens_of, run_of}
 use Rattle.dogwood_rules.specs.Layout.{Settings, column, empty, following, fit_group, join_lines, lines}

@@ -1,7 +1,7 @@
 -- Outlines: how their words are read, and when an outline fits a text.
-use Rattle.std.specs.Prelude.{◌≡◌, Bool, true, false, not, ◌&&◌, ◌||◌, List, [], ◌∷◌, ℕ, zero, suc, ◌+◌, ◌-◌, ◌*◌, leb, ltb, eqb, length}
+use Rattle.std.specs.Prelude.{◌≡◌, Bool, true, false, not, ◌&&◌, ◌||◌, List, [], ◌∷◌, ℕ, zero, suc, ◌+◌, ◌-◌, ◌*◌, leb, ltb, eqb, length, if◌then◌else◌}
 use Rattle.std.proofs.Math.Option.{Option, none, some}
-use Rattle.dogwood_rules.specs.Basic.{if◌then◌else◌, every, some?, cut}
+use Rattle.dogwood_rules.specs.Basic.{every, some?, cut}
 use Rattle.dogwood_rules.specs.Token.{Token, Placed, tokens}
 use Rattle.dogwood_rules.specs.Tree.{blank, comment, opener, closer}
 

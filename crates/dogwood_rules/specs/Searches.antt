@@ -1,7 +1,6 @@
 -- What answers 2 and 5 tell: the first comment inside a statement, and the first opener that is nested too deep.
-use Rattle.std.specs.Prelude.{true, false, List, [], ◌∷◌, ℕ, suc, ◌-◌, eqb}
+use Rattle.std.specs.Prelude.{true, false, List, [], ◌∷◌, ℕ, suc, ◌-◌, eqb, if◌then◌else◌}
 use Rattle.std.proofs.Math.Option.{Option, none, some}
-use Rattle.dogwood_rules.specs.Basic.{if◌then◌else◌}
 use Rattle.dogwood_rules.specs.Token.{Placed}
 use Rattle.dogwood_rules.specs.Tree.{comment, opener, closer}
 use Rattle.dogwood_rules.specs.Outline.{Span, Statement, within, beyond}

@@ -1,6 +1,5 @@
 -- What a source is before an outline is looked at: the first three of the numbers answered, which every call shares.
-use Rattle.std.specs.Prelude.{List, [], ℕ, ◌-◌, ltb, eqb, length}
-use Rattle.dogwood_rules.specs.Basic.{if◌then◌else◌}
+use Rattle.std.specs.Prelude.{List, [], ℕ, ◌-◌, ltb, eqb, length, if◌then◌else◌}
 use Rattle.dogwood_rules.specs.Utf8.{decode, byte_length, text_of}
 use Rattle.dogwood_rules.specs.Token.{Token, Placed, tokenise, placed}
 

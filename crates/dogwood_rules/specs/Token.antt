@@ -1,7 +1,7 @@
 -- White space, the seven token rules, the tokens of a text, their places, and the words of the token table. A text is a list of code points.
-use Rattle.std.specs.Prelude.{Bool, true, false, not, ◌&&◌, ◌||◌, List, [], ◌∷◌, ◌++◌, ℕ, suc, ◌+◌, ◌<◌, eqb, take}
+use Rattle.std.specs.Prelude.{Bool, true, false, not, ◌&&◌, ◌||◌, List, [], ◌∷◌, ◌++◌, ℕ, suc, ◌+◌, ◌<◌, eqb, take, if◌then◌else◌}
 use Rattle.std.proofs.Math.Option.{Option, none, some}
-use Rattle.dogwood_rules.specs.Basic.{if◌then◌else◌, within, one_of, run_length, cut}
+use Rattle.dogwood_rules.specs.Basic.{within, one_of, run_length, cut}
 use Rattle.dogwood_rules.specs.Utf8.{byte_length}
 
 -- 01: "Kinds: 0 Whitespace, 1 Comment, 2 String, 3 Identifier, 4 Number, 5 Symbol, 6 Other."

@@ -1,6 +1,6 @@
 -- The flat text of a token run, a run as a tree of its groups, and the items of a group's inside.
-use Rattle.std.specs.Prelude.{Bool, true, false, ◌||◌, List, [], ◌∷◌, ◌++◌, ℕ, ◌+◌}
-use Rattle.dogwood_rules.specs.Basic.{if◌then◌else◌, same, trim}
+use Rattle.std.specs.Prelude.{Bool, true, false, ◌||◌, List, [], ◌∷◌, ◌++◌, ℕ, ◌+◌, if◌then◌else◌}
+use Rattle.dogwood_rules.specs.Basic.{same, trim}
 use Rattle.dogwood_rules.specs.Token.{Token, Kind, Whitespace, Comment, String, Identifier, Number, Symbol, Other}
 
 -- Tests on a token ---------------------------------------------------------------------------------

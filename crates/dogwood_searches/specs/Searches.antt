@@ -1,8 +1,7 @@
 -- The searches of answers 2, 3 and 5 as walks over the words of a token table. How the code works, on any words; what it means stands in dogwood_rules, and
 -- the laws of dogwood_outline tie the two for the words of a text's tokens.
-use Rattle.std.specs.Prelude.{List, [], ◌∷◌, ℕ, suc, ◌-◌, ltb, eqb, get_or, drop}
+use Rattle.std.specs.Prelude.{List, [], ◌∷◌, ℕ, suc, ◌-◌, ltb, eqb, get_or, drop, if◌then◌else◌}
 use Rattle.std.proofs.Math.Option.{Option, none, some}
-use Rattle.dogwood_rules.specs.Basic.{if◌then◌else◌}
 use Rattle.dogwood_rules.specs.Outline.{Statement}
 use Rattle.dogwood_rules.specs.Searches.{or_else}
 use Rattle.dogwood_words.specs.Brackets.{opening, closing}

@@ -1,7 +1,6 @@
 -- The numbers of document 01 for each answer, and that they tell the answers apart.
-use Rattle.std.specs.Prelude.{ℕ, ◌≡◌, refl, List, eqb}
+use Rattle.std.specs.Prelude.{ℕ, ◌≡◌, refl, List, eqb, if◌then◌else◌}
 use Rattle.std.proofs.Common.{sym, ◌∙◌}
-use Rattle.dogwood_rules.specs.Basic.{if◌then◌else◌}
 use Rattle.dogwood_rules.specs.Promises.{Tokenises, tokenises-only}
 use Rattle.dogwood_syntax.specs.declared.tokenizing.Tokenized.{Tokenized}
 use Rattle.dogwood_syntax.specs.declared.tokenizing.Tokenized.TheVariants.{Done, Unended, TooLong, NotUtf8, Small}

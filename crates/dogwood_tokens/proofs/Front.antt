@@ -1,4 +1,5 @@
 -- THE TOKEN BRIDGE, one token: what stands at a place is what dogwood_rules' seven rules give at the front of the characters from there on.
+use Rattle.std.specs.Prelude.{if◌then◌else◌}
 use Prim.Native.Nat.{ℕ, ◌+◌, ◌<◌, ◌≤◌}
 use mathlib.Core.Path.{◌≡◌, refl, sym, ap, ◌∙◌, subst}
 use mathlib.Core.Bool.{Bool, true, false, cond, not, ◌&&◌, false≢true}
@@ -8,7 +9,7 @@ use native.Mathlib.Omega.{arith}
 use borrow.Author.Tests.{eqb-true, ltb-true, ltb-false, ne_eqb}
 use lib.ListN.{take, get_or}
 use lib.Dec.{eqb, ltb}
-use Rattle.dogwood_rules.specs.Basic.{if◌then◌else◌, run_length}
+use Rattle.dogwood_rules.specs.Basic.{run_length}
 use Rattle.dogwood_rules.specs.Utf8.{size, byte_length}
 use Rattle.dogwood_rules.specs.Token.{white, letter, digit, wordly, single, double, line_end, other, next, closing, piece, string_piece, token, kind_number, Whitespace, Comment, Identifier, Number}
 use Rattle.dogwood_rules.specs.Token as R

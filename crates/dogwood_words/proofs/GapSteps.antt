@@ -1,4 +1,5 @@
 -- The walk over a gap and the walk over a part, by the rows' steps.
+use Rattle.std.specs.Prelude.{if◌then◌else◌}
 use mathlib.Core.Path.{◌≡◌, refl, ◌∙◌, ap}
 use mathlib.Core.Bool.{Bool, true, false, ◌&&◌, ◌||◌}
 use mathlib.Core.List.{List, ◌∷◌}
@@ -8,7 +9,6 @@ use native.Mathlib.Omega.{arith}
 use lib.Dec.{leb, eqb}
 use lib.ListN.{length, get_or, drop}
 use borrow.Author.Tests.{lt-ltb, le-ltb, lt-leb, le-leb, eq-eqb, ne_eqb}
-use Rattle.dogwood_rules.specs.Basic.{if◌then◌else◌}
 use Rattle.dogwood_words.specs.declared.rows.Row.TheVariants.{Ended}
 use Rattle.dogwood_words.specs.Brackets.{opening, closing}
 use Rattle.dogwood_words.specs.Rows.{row_of, gap_in, part_in}

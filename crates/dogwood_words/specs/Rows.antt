@@ -1,7 +1,6 @@
 -- Walks over the words of a token table, row by row.
-use Rattle.std.specs.Prelude.{Bool, ◌&&◌, ◌||◌, List, [], ◌∷◌, ℕ, suc, ◌+◌, ◌-◌, leb, ltb, eqb, length, get_or}
+use Rattle.std.specs.Prelude.{Bool, ◌&&◌, ◌||◌, List, [], ◌∷◌, ℕ, suc, ◌+◌, ◌-◌, leb, ltb, eqb, length, get_or, if◌then◌else◌}
 use Rattle.std.proofs.Math.Option.{Option, none, some}
-use Rattle.dogwood_rules.specs.Basic.{if◌then◌else◌}
 use Rattle.dogwood_words.specs.declared.rows.Row.{Row}
 use Rattle.dogwood_words.specs.declared.rows.Row.TheVariants.{Token, Ended}
 use Rattle.dogwood_words.specs.declared.walks.Walked.{Walked}

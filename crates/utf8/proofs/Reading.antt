@@ -1,5 +1,6 @@
 -- Reads s i cs: from the place i on, up to its end or the first bad place, s has the characters cs. What is proved of places is proved by
 -- induction on it.
+use Rattle.std.specs.Prelude.{if◌then◌else◌}
 use Prim.Native.Nat.{ℕ, suc, ◌+◌, ◌/◌, ◌<◌, ◌≤◌}
 use mathlib.Core.Path.{◌≡◌, refl, sym, ap, ◌∙◌, subst}
 use mathlib.Core.Bool.{Bool, true, false, cond}
@@ -10,7 +11,6 @@ use borrow.Author.Tests.{ltb-true, ltb-false, lt-ltb}
 use lib.ListN.{length, get_or, drop, length-drop, length-append, drop_of_length-le, get_or-eq_default}
 use lib.Seq.{drop-cons}
 use lib.Dec.{ltb}
-use Rattle.dogwood_rules.specs.Basic.{if◌then◌else◌}
 use Rattle.dogwood_rules.specs.Token.{next}
 use Rattle.dogwood_rules.specs.Utf8.{character, decode, encode, size, byte_length, bytes_of, later}
 use Rattle.dogwood_rules.proofs.Decoding.{character_sound, decode_sound}
