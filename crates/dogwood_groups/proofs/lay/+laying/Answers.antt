@@ -124,7 +124,7 @@ lay_item-returns t c =
     let line = c.put_line-c.ensures in
     let room : length c.put_line-c.new.out ≤ cap = omega (arith, wrote-length line, c.well_formed.0.1) in
     let laid = laid-wrote c.args.page c.args.depth _ _ h.ready (trimmed_formed h) (bounded_less _ _ c.requires.2 (omega arith)) c.lay_out.ensures in
-    wrote-same (item_written (settings c.args.page) c.args.depth _ _ c.requires.1 h c.if-a-b.false)
+    wrote-same (item_written (settings c.args.page) c.args.depth _ _ c.requires.1 h (omega arith))
     (wrote_then line c.clip-at.ensures.place room laid c.add.ensures.sum)
 
 pub lay_items-split_items-set-requires : goal.lay_items-split_items-set-requires

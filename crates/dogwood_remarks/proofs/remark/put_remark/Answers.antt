@@ -27,5 +27,5 @@ returns c =
     let feeds = c.put_copies-n.ensures in
     let room = wrote-length feeds in
     let good = c.well_formed in
-    remark_written c.requires c.kept.ensures (omega (arith, c.if-e-ne1.false)) _
+    remark_written c.requires c.kept.ensures (omega arith) _
     (wrote_then feeds c.clip-at.ensures.place (omega arith) c.put_all.ensures c.add.ensures.sum)
