@@ -1,19 +1,16 @@
 use mathlib.Core.Path.{sym}
+use native.Mathlib.Omega.{arith}
 use Rattle.dogwood_outline.proofs.KindOf.{kind_policy, kind_none, kind_count, kind_span}
 use Rattle.dogwood_outline.proofs.kinds.kind_fits.Goals as goal
 
--- src/records.rt:53:9
 pub returns-then-outline-i-eq1 : goal.returns-then-outline-i-eq1
 returns-then-outline-i-eq1 c = sym (kind_policy _ _ c.if-outline-i-eq1.true)
 
--- src/records.rt:56:9
 pub returns-then-outline-i-ne0 : goal.returns-then-outline-i-ne0
 returns-then-outline-i-ne0 c = sym (kind_none _ _ c.if-outline-i-eq1.false c.if-outline-i-ne0.true)
 
--- src/records.rt:59:9
 pub returns-then-outline-i-ne1 : goal.returns-then-outline-i-ne1
 returns-then-outline-i-ne1 c = sym (kind_count _ _ c.if-outline-i-eq1.false c.if-outline-i-ne1.true)
 
--- src/records.rt:48:1
 pub returns : goal.returns
-returns c = sym (kind_span _ _ c.if-outline-i-ne0.false c.if-outline-i-ne1.false)
+returns c = sym (kind_span _ _ c.if-outline-i-ne0.false (omega arith))
