@@ -7,7 +7,7 @@ use dogwood_searches::{deep_opener, first_comment, nothing_there};
 use utf8::Found;
 
 // What stands between a text with its outline and its layout.
-#[derive(Drop)]
+#[derive(Clone, Copy)]
 pub enum Verdict {
     // The outline does not fit.
     Misfit,

@@ -6,7 +6,7 @@ use crate::fitting::fit;
 use dogwood_syntax::Tokenized;
 
 // What testing an outline answers.
-#[derive(Drop)]
+#[derive(Clone, Copy)]
 pub enum Tested {
     Fits,
     // Where a string without end begins.

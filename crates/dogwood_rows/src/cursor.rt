@@ -4,7 +4,7 @@ ghost use Rattle.dogwood_rows.specs.Promises.{StepIs, BackIs, EndIs, CountIs};
 use crate::WORDS;
 
 // A row's kind, start and end, and the place to go on from; or no row.
-#[derive(Drop)]
+#[derive(Clone, Copy)]
 pub enum Step {
     Row(u32, u32, u32, usize),
     Ended,

@@ -2,7 +2,7 @@
 ghost use Rattle.dogwood_words.specs.Promises.{RecordIs};
 
 // A statement's bounds in the text, how many parts it has, and the word behind its record.
-#[derive(Drop)]
+#[derive(Clone, Copy)]
 pub struct Record {
     pub start: usize,
     pub end: usize,
@@ -11,7 +11,7 @@ pub struct Record {
 }
 
 // A whole record, or too few words.
-#[derive(Drop)]
+#[derive(Clone, Copy)]
 pub enum Reading {
     Whole(Record),
     Short,

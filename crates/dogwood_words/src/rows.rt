@@ -2,7 +2,7 @@
 ghost use Rattle.dogwood_words.specs.Promises.{RowIs, SkipIs};
 
 // A token's kind and where it starts, or no token.
-#[derive(Drop)]
+#[derive(Clone, Copy)]
 pub enum Row {
     Token(u32, usize),
     Ended,

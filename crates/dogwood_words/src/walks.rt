@@ -31,7 +31,7 @@ pub fn gap(table: &[u32], from: usize, end: usize, n: usize) -> Found
 }
 
 // A part that is sound, with whether a token stands in it that is neither white space nor comment, and where it ends in the table; or one that is not.
-#[derive(Drop)]
+#[derive(Clone, Copy)]
 pub enum Walked {
     Sound(bool, usize),
     Off,
