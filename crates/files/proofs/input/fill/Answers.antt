@@ -13,12 +13,12 @@ one_read_more a n k xs ys within fits =
     let rest = ap (take n) (drop_at (take a xs) (ys ++ after) a (length-take-le a xs within)) ∙ take-append-le n ys after fits in
     take-add a n (put_mid a k xs ys) ∙ ap (λ l. l ++ take n (drop a (put_mid a k xs ys))) (take-put_mid_below a k xs ys a (le_refl _) within) ∙ ap (λ l. take a xs ++ l) rest
 
-pub loop-done-preserved : goal.loop-done-preserved
-loop-done-preserved g c =
-    let before = c.loop-done.done in
-    let joined = one_read_more before c.in-Ok.n (length c.loop-done.buf - before) c.loop-done.buf c.read.new.buf c.loop-done.invariant.within c.in-Ok.ensures.bound.0 in
+pub loop-len-preserved : goal.loop-len-preserved
+loop-len-preserved g c =
+    let before = c.loop-len.len in
+    let joined = one_read_more before c.in-Ok.n (length c.loop-len.buf - before) c.loop-len.buf c.read.new.buf c.loop-len.invariant.within c.in-Ok.ensures.bound.0 in
     record {
       same_length = search rules;
       within = search rules;
-      taken = subst (Consumes _ _) (sym joined) (Consumes-trans _ _ _ _ _ c.loop-done.invariant.taken c.in-Ok.ensures.bytes.0);
+      taken = subst (Consumes _ _) (sym joined) (Consumes-trans _ _ _ _ _ c.loop-len.invariant.taken c.in-Ok.ensures.bytes.0);
     }
