@@ -1,7 +1,7 @@
 -- The mission's promises follow from the one that `format_policies` makes.
 use mathlib.Core.Path.{◌≡◌, sym, ◌∙◌, ap, subst}
 use mathlib.Core.List.{List}
-use Prim.Native.Nat.{ℕ, ◌<◌, ◌≤◌}
+use Prim.Native.Nat.{ℕ}
 use native.Mathlib.Omega.{arith}
 use lib.ListN.{take, drop, length as count}
 use lib.Seq.{take-append_seam}
@@ -10,8 +10,8 @@ use Rattle.dogwood_rules.specs.Answer.{Answer, answer}
 use Rattle.dogwood_rules.specs.Promises.{over}
 use Rattle.dogwood_rules.specs.Claims.{Preserved, Kept}
 use Rattle.dogwood_rules.proofs.Number3.{number3, number3', same-tokens}
-use Rattle.dogwood_formatter.specs.Numbers.{number, length}
-use Rattle.dogwood_theorems.specs.Calls.{Call, wrote, Promised, AllPromised, SameTokens}
+use Rattle.dogwood_formatter.specs.Numbers.{number}
+use Rattle.dogwood_theorems.specs.Calls.{Call, wrote, AllPromised, SameTokens}
 use Rattle.dogwood_theorems.proofs.Refusals.{answer_refusing}
 
 -- what the definitions answer
