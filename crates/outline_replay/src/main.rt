@@ -4,6 +4,8 @@
 
 use dogwood_outline::Tested;
 use files::{open_arg, put_answer, put_text, read_part, take_words, word};
+use std::io;
+use std::io::{Read, Write};
 
 #[derive(Drop)]
 struct Answer {
@@ -40,31 +42,37 @@ fn answer_of(t: Tested) -> Answer {
     }
 }
 
-fn run(source: &[u8], bytes: &[u8], outline: &mut [u32], table: &mut [u32]) {
+fn run<W: Write>(
+    source: &[u8],
+    bytes: &[u8],
+    outline: &mut [u32],
+    table: &mut [u32],
+    out: &mut W,
+) -> io::Result<()> {
     take_words(bytes, outline);
     let a = answer_of(dogwood_outline::test_outline(source, outline, table));
-    put_answer(a.number, a.value, table);
+    put_answer(out, a.number, a.value, table)
 }
 
 // Reads one record and runs it; answers false where there is none, or one that is too large.
-fn one(fd: i32) -> bool {
+fn one<R: Read, W: Write>(input: &mut R, out: &mut W) -> io::Result<bool> {
     let mut head = [0u8; 12];
-    if read_part(fd, &mut head, 12) != 12 {
-        return false;
+    if read_part(input, &mut head, 12) != 12 {
+        return Ok(false);
     }
     let size = word(&head, 0) as usize;
     let count = word(&head, 4) as usize;
     let room = word(&head, 8) as usize;
     if 1024 < count {
-        return false;
+        return Ok(false);
     }
     if 12288 < room {
-        return false;
+        return Ok(false);
     }
-    let mut source = io::buffer();
-    let n = read_part(fd, &mut source, size);
-    let mut bytes = io::buffer();
-    let m = read_part(fd, &mut bytes, 4 * count);
+    let mut source = [0u8; 4096];
+    let n = read_part(input, &mut source, size);
+    let mut bytes = [0u8; 4096];
+    let m = read_part(input, &mut bytes, 4 * count);
     let mut outline = [0u32; 1024];
     let mut table = [4294967295u32; 12288];
     run(
@@ -72,22 +80,24 @@ fn one(fd: i32) -> bool {
         &bytes[..m],
         &mut outline[0..count],
         &mut table[0..room],
-    );
-    true
+        out,
+    )?;
+    Ok(true)
 }
 
-fn all(fd: i32) {
-    let mut turns = u64::MAX;
-    while turns > 0 && one(fd) {
-        turns -= 1;
+fn all<R: Read, W: Write>(input: &mut R, out: &mut W) -> io::Result<()> {
+    for _ in 0..u64::MAX {
+        if !one(input, out)? {
+            break;
+        }
     }
+    Ok(())
 }
 
-fn main() {
-    let fd = open_arg(1);
-    if fd < 0 {
-        put_text(b"no records\n");
-        return;
+fn main(rt: HostRuntime) -> io::Result<()> {
+    let mut out = io::writer(&rt);
+    match open_arg(&rt, 1) {
+        Some(mut input) => all(&mut input, &mut out),
+        None => put_text(&mut out, b"no records\n"),
     }
-    all(fd);
 }
