@@ -9,105 +9,149 @@ use dogwood_told::tell;
 use files::{
     letters, open_arg, put_line, put_number, put_pair, put_text, read_part, take_words, word,
 };
+use std::io;
+use std::io::{Read, Write};
 
 const LONGEST: usize = 1048576;
 
-fn run(source: &[u8], outline: &[u32], table: &mut [u32], output: &mut [u8]) {
+// The answers go to `out`; `output` is where the formatter puts a layout.
+fn run<W: Write>(
+    source: &[u8],
+    outline: &[u32],
+    table: &mut [u32],
+    output: &mut [u8],
+    out: &mut W,
+) -> io::Result<()> {
     let told = tell(format_policies(source, outline, table, output));
-    put_pair(told.number, told.place);
-    put_text(b" ");
-    put_number(told.len as u64);
-    put_text(b"\n");
-    put_text(output);
-    put_text(b"\n");
-    put_line(table);
+    put_pair(out, told.number, told.place)?;
+    put_text(out, b" ")?;
+    put_number(out, told.len as u64)?;
+    put_text(out, b"\n")?;
+    put_text(out, output)?;
+    put_text(out, b"\n")?;
+    put_line(out, table)
 }
 
-fn run_too_long(source: &[u8; 1048577], outline: &[u32], table: &mut [u32], output: &mut [u8]) {
-    run(source, outline, table, output);
+fn run_too_long<W: Write>(
+    source: &[u8; 1048577],
+    outline: &[u32],
+    table: &mut [u32],
+    output: &mut [u8],
+    out: &mut W,
+) -> io::Result<()> {
+    run(source, outline, table, output, out)
 }
 
-fn run_longest(source: &[u8; 1048577], outline: &[u32], table: &mut [u32], output: &mut [u8]) {
+fn run_longest<W: Write>(
+    source: &[u8; 1048577],
+    outline: &[u32],
+    table: &mut [u32],
+    output: &mut [u8],
+    out: &mut W,
+) -> io::Result<()> {
     let all: &[u8] = source;
-    run(&all[1..], outline, table, output);
+    run(&all[1..], outline, table, output, out)
 }
 
-fn read_outline(fd: i32, outline: &mut [u32]) {
+fn read_outline<R: Read>(input: &mut R, outline: &mut [u32]) {
     let mut bytes = [0u8; 16384];
-    let n = read_part(fd, &mut bytes, 4 * outline.len());
+    let n = read_part(input, &mut bytes, 4 * outline.len());
     take_words(&bytes[..n], outline);
 }
 
-fn run_letters(fd: i32, size: usize, outline: &mut [u32], table: &mut [u32], output: &mut [u8]) {
-    read_outline(fd, outline);
+fn run_letters<R: Read, W: Write>(
+    input: &mut R,
+    size: usize,
+    outline: &mut [u32],
+    table: &mut [u32],
+    output: &mut [u8],
+    out: &mut W,
+) -> io::Result<()> {
+    read_outline(input, outline);
     let source = letters();
     if size == LONGEST {
-        run_longest(&source, outline, table, output);
+        run_longest(&source, outline, table, output, out)
     } else {
-        run_too_long(&source, outline, table, output);
+        run_too_long(&source, outline, table, output, out)
     }
 }
 
-fn run_written(fd: i32, size: usize, outline: &mut [u32], table: &mut [u32], output: &mut [u8]) {
-    let mut source = io::large_buffer();
-    let n = read_part(fd, &mut source, size);
-    read_outline(fd, outline);
-    run(&source[..n], outline, table, output);
+fn run_written<R: Read, W: Write>(
+    input: &mut R,
+    size: usize,
+    outline: &mut [u32],
+    table: &mut [u32],
+    output: &mut [u8],
+    out: &mut W,
+) -> io::Result<()> {
+    let mut source = [0u8; 65536];
+    let n = read_part(input, &mut source, size);
+    read_outline(input, outline);
+    run(&source[..n], outline, table, output, out)
 }
 
 // Reads the source and the outline of a record and runs it.
-fn run_record(fd: i32, size: usize, outline: &mut [u32], table: &mut [u32], output: &mut [u8]) {
+fn run_record<R: Read, W: Write>(
+    input: &mut R,
+    size: usize,
+    outline: &mut [u32],
+    table: &mut [u32],
+    output: &mut [u8],
+    out: &mut W,
+) -> io::Result<()> {
     if size < LONGEST {
-        run_written(fd, size, outline, table, output);
+        run_written(input, size, outline, table, output, out)
     } else {
-        run_letters(fd, size, outline, table, output);
+        run_letters(input, size, outline, table, output, out)
     }
 }
 
 // Reads one record and runs it; answers false where there is none, or one that is too large.
-fn one(fd: i32) -> bool {
+fn one<R: Read, W: Write>(input: &mut R, out: &mut W) -> io::Result<bool> {
     let mut head = [0u8; 16];
-    if read_part(fd, &mut head, 16) != 16 {
-        return false;
+    if read_part(input, &mut head, 16) != 16 {
+        return Ok(false);
     }
     let size = word(&head, 0) as usize;
     let count = word(&head, 4) as usize;
     let words = word(&head, 8) as usize;
     let room = word(&head, 12) as usize;
     if 4096 < count {
-        return false;
+        return Ok(false);
     }
     if 24576 < words {
-        return false;
+        return Ok(false);
     }
     if 65536 < room {
-        return false;
+        return Ok(false);
     }
     let mut outline = [0u32; 4096];
     let mut table = [4294967295u32; 24576];
     let mut output = [126u8; 65536];
     run_record(
-        fd,
+        input,
         size,
         &mut outline[0..count],
         &mut table[0..words],
         &mut output[0..room],
-    );
-    true
+        out,
+    )?;
+    Ok(true)
 }
 
-fn all(fd: i32) {
-    let mut turns = u64::MAX;
-    while turns > 0 && one(fd) {
-        turns -= 1;
+fn all<R: Read, W: Write>(input: &mut R, out: &mut W) -> io::Result<()> {
+    for _ in 0..u64::MAX {
+        if !one(input, out)? {
+            break;
+        }
     }
+    Ok(())
 }
 
-fn main() {
-    let fd = open_arg(1);
-    if fd < 0 {
-        put_text(b"no records\n");
-        return;
+fn main(rt: HostRuntime) -> io::Result<()> {
+    let mut out = io::writer(&rt);
+    match open_arg(&rt, 1) {
+        Some(mut input) => all(&mut input, &mut out),
+        None => put_text(&mut out, b"no records\n"),
     }
-    all(fd);
 }
