@@ -4,61 +4,60 @@
 
 use dogwood_formatter::format_policies;
 use dogwood_told::{Told, tell};
-use files::{ended, open_arg, put_pair, put_text, take_words, within};
+use files::{open_arg, put_pair, put_text, read_whole, take_words, within};
+use std::io;
+use std::io::Write;
+use std::rt::{Env, Files};
 
-fn bad_file() {
-    put_text(b"bad file\n");
+fn bad_file<W: Write>(out: &mut W) -> io::Result<()> {
+    put_text(out, b"bad file\n")
 }
 
-fn put_told(told: Told, written: &[u8]) {
-    put_pair(told.number, told.place);
-    put_text(b"\n");
-    put_text(written);
+fn put_told<W: Write>(told: Told, written: &[u8], out: &mut W) -> io::Result<()> {
+    put_pair(out, told.number, told.place)?;
+    put_text(out, b"\n")?;
+    put_text(out, written)
 }
 
 // The source has at most 4,096 bytes, so its tokens always fit, and 13 is never answered here. That the length answered is within the output is
 // promised too; `within` says it in the words that lending a part asks for.
-fn run(source: &[u8], bytes: &[u8], outline: &mut [u32]) {
+fn run<W: Write>(source: &[u8], bytes: &[u8], outline: &mut [u32], out: &mut W) -> io::Result<()> {
     take_words(bytes, outline);
     let mut table = [0u32; 12288];
-    let mut output = io::large_buffer();
+    let mut output = [0u8; 65536];
     let told = tell(format_policies(source, outline, &mut table, &mut output));
     let n = within(told.len, &output);
-    put_told(told, &output[..n]);
+    put_told(told, &output[..n], out)
 }
 
-fn run_with_outline(source: &[u8]) {
-    let fd = open_arg(2);
-    if fd < 0 {
-        bad_file();
-        return;
-    }
+fn run_with_outline<R: Env + Files, W: Write>(
+    rt: &R,
+    source: &[u8],
+    out: &mut W,
+) -> io::Result<()> {
+    let Some(mut file) = open_arg(rt, 2) else {
+        return bad_file(out);
+    };
     let mut bytes = [0u8; 16384];
-    let n = io::read_full(fd, &mut bytes);
-    if !ended(fd) {
-        bad_file();
-        return;
-    }
+    let Some(n) = read_whole(&mut file, &mut bytes) else {
+        return bad_file(out);
+    };
     if n % 4 != 0 {
-        bad_file();
-        return;
+        return bad_file(out);
     }
     let count = n / 4;
     let mut outline = [0u32; 4096];
-    run(source, &bytes[..n], &mut outline[0..count]);
+    run(source, &bytes[..n], &mut outline[0..count], out)
 }
 
-fn main() {
-    let fd = open_arg(1);
-    if fd < 0 {
-        bad_file();
-        return;
-    }
-    let mut source = io::buffer();
-    let n = io::read_full(fd, &mut source);
-    if !ended(fd) {
-        bad_file();
-        return;
-    }
-    run_with_outline(&source[..n]);
+fn main(rt: HostRuntime) -> io::Result<()> {
+    let mut out = io::writer(&rt);
+    let Some(mut file) = open_arg(&rt, 1) else {
+        return bad_file(&mut out);
+    };
+    let mut source = [0u8; 4096];
+    let Some(n) = read_whole(&mut file, &mut source) else {
+        return bad_file(&mut out);
+    };
+    run_with_outline(&rt, &source[..n], &mut out)
 }
