@@ -1,5 +1,5 @@
-/* Loamribbon for C and for what can call C. Link the archive that `rt staticlib dogwood_c` writes to
- * target/staticlib/libdogwood_c.a; it needs memcpy, memmove and memset, and no other library. examples/c/ has a program.
+/* Loamribbon for C and for what can call C. Link the archive that `rt lib`, called in crates/dogwood_c, writes to
+ * crates/dogwood_c/out/libdogwood_c.a; it needs at most memcpy, memmove and memset, and no other library. examples/c/ has a program.
  *
  * A slice is a pointer and how many elements it has; with no elements the pointer may be any that is not null and is aligned.
  * A place, a total or a length is always written. Nothing is kept between calls, and buffers must not overlap. The result is the number
