@@ -1,4 +1,4 @@
-// The rows of a token table: the one crate that knows how many words a row has. Any words and any places get an answer.
+// The rows of a token table. Any words and any places get an answer.
 #![tactic(auto)]
 
 mod cursor;
