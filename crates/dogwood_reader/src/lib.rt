@@ -9,6 +9,9 @@ ghost use Rattle.dogwood_reader.specs.Promises.{Makes, Moves, Gives};
 use dogwood_tokens::{Cursor, Step};
 use utf8::Found;
 
+// How many bytes a source may have.
+const LONGEST: usize = 1048576;
+
 // What a reading gives: a token's kind, start and end; that the text has ended; where a string without end begins; a refusal's number and place.
 #[derive(Clone, Copy)]
 pub enum Reading {
@@ -70,7 +73,7 @@ fn refusal(number: u32, place: usize) -> State
 fn start_at(src: &[u8]) -> State
     ensures { result ≡ standing src.now 0 }
 {
-    if 1048576 < src.len() {
+    if LONGEST < src.len() {
         return refusal(11, 0);
     }
     let mark = utf8::split_bom(src);

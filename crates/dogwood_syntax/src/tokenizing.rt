@@ -8,6 +8,9 @@ use crate::table::{RECORD, fill, shortage};
 use dogwood_tokens::first_open;
 use utf8::Found;
 
+// How many bytes a source may have.
+const LONGEST: usize = 1048576;
+
 // What tokenising answers.
 #[derive(Clone, Copy)]
 pub enum Tokenized {
@@ -44,7 +47,7 @@ fn tokenize_text(text: &[u8], table: &mut [u32]) -> Tokenized
 pub fn tokenize(src: &[u8], table: &mut [u32]) -> Tokenized
     ensures { Tokenises src.now table.old (number result) (value result) table.new }
 {
-    if 1048576 < src.len() {
+    if LONGEST < src.len() {
         return Tokenized::TooLong;
     }
     let start = utf8::split_bom(src);

@@ -22,7 +22,8 @@ pub fn first_open(s: &[u8]) -> Found
             };
             i += len;
         } else if b == 0x2F {
-            if utf8::byte(s, i + 1) == 0x2F {
+            let comment = utf8::byte(s, i + 1) == 0x2F;
+            if comment {
                 i = take_line(s, i);
             } else {
                 i += 1;

@@ -18,7 +18,8 @@ pub fn gap(table: &[u32], from: usize, end: usize, n: usize) -> Found
             return Found::Nothing;
         };
         if n <= start {
-            if start == n {
+            let meets = start == n;
+            if meets {
                 return Found::At(i);
             }
             return Found::Nothing;

@@ -21,8 +21,8 @@ found : (src : List ℕ) (m : ℕ) (r : Found) → m ≡ length (mark_of src)
     → left_at (length (text_of src)) (decode (text_of src)).1 ≡ r
 found src m r e q = ap (λ (l : List ℕ). left_at (length l) (decode l).1) (sym (text_of_lem src m e)) ∙ sym q
 
-pub returns-then-src-gt1048576 : goal.returns-then-src-gt1048576
-returns-then-src-gt1048576 c = c.refusal.ensures ∙ sym (long_start c.args.src.now c.if-src-gt1048576.true)
+pub returns-then-src-gt-LONGEST : goal.returns-then-src-gt-LONGEST
+returns-then-src-gt-LONGEST c = c.refusal.ensures ∙ sym (long_start c.args.src.now c.if-src-gt-LONGEST.true)
 
 pub slice_bounds-first_bad-count : goal.slice_bounds-first_bad-count
 slice_bounds-first_bad-count c = omega (arith, mark_inside c.args.src.now, c.split_bom-mark.ensures)
@@ -34,7 +34,7 @@ pub overflow_add-mark : goal.overflow_add-mark
 overflow_add-mark c = omega (arith, mark_inside c.args.src.now, length_text c.args.src.now, c.split_bom-mark.ensures, left_inside (length (text_of c.args.src.now)) (decode (text_of c.args.src.now)).1 _ (found c.args.src.now c.split_bom-mark.result c.first_bad.result c.split_bom-mark.ensures c.first_bad.ensures ∙ c.in-At.is))
 
 pub returns-in-At : goal.returns-in-At
-returns-in-At c = c.refusal-in-At.ensures ∙ ap (λ (m : ℕ). refusal-of (m + c.in-At.i)) c.split_bom-mark.ensures ∙ sym (bad_start c.args.src.now c.if-src-gt1048576.false _ (found c.args.src.now c.split_bom-mark.result c.first_bad.result c.split_bom-mark.ensures c.first_bad.ensures ∙ c.in-At.is))
+returns-in-At c = c.refusal-in-At.ensures ∙ ap (λ (m : ℕ). refusal-of (m + c.in-At.i)) c.split_bom-mark.ensures ∙ sym (bad_start c.args.src.now c.if-src-gt-LONGEST.false _ (found c.args.src.now c.split_bom-mark.result c.first_bad.result c.split_bom-mark.ensures c.first_bad.ensures ∙ c.in-At.is))
 
 pub returns-in-Nothing : goal.returns-in-Nothing
-returns-in-Nothing c = c.state_at.ensures ∙ good_start c.args.src.now c.if-src-gt1048576.false (found c.args.src.now c.split_bom-mark.result c.first_bad.result c.split_bom-mark.ensures c.first_bad.ensures ∙ c.in-Nothing.is)
+returns-in-Nothing c = c.state_at.ensures ∙ good_start c.args.src.now c.if-src-gt-LONGEST.false (found c.args.src.now c.split_bom-mark.result c.first_bad.result c.split_bom-mark.ensures c.first_bad.ensures ∙ c.in-Nothing.is)

@@ -18,4 +18,4 @@ pub overflow_cast-result : goal.overflow_cast-result
 overflow_cast-result c = omega (arith, leading_le 8 (255 - c.args.b))
 
 pub returns : goal.returns
-returns c = rw (← by_bits_lem c.args.b c.ranges.b.fits) (simp (ne_eqb _ _ c.if-n-eq0.false, le-ltb _ _ c.if-b-lt194.false, le-ltb _ _ c.if-b-gt244.false))
+returns c = rw (← by_bits_lem c.args.b c.ranges.b.fits) (simp (ne_eqb _ _ c.if-n-eq0.false, le-ltb c.args.b 194 (omega arith), le-ltb _ _ c.if-b-gt244.false))

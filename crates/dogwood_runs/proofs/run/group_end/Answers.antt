@@ -21,7 +21,7 @@ loop-i-smaller c = (let a = c.loop-i-test.true in omega arith)
 
 pub loop-i-preserved : goal.loop-i-preserved
 loop-i-preserved c =
-    group_turn _ _ _ _ c.loop-i.invariant c.loop-i-test.true _ c.entry_at.ensures c.depth_after-depth.ensures c.if-depth-eq0.false
+    group_turn _ _ _ _ c.loop-i.invariant c.loop-i-test.true _ c.entry_at.ensures c.depth_after-depth.ensures (λ e. omega arith)
 
 pub returns-after-loop-i : goal.returns-after-loop-i
 returns-after-loop-i c = group_end_lem _ _ _ _ c.loop-i.invariant (omega (arith, c.loop-i-test.false))

@@ -16,7 +16,7 @@ pub loop-i-smaller : goal.loop-i-smaller
 loop-i-smaller c = (let a = c.loop-i-test.true in omega arith)
 
 pub loop-i-preserved : goal.loop-i-preserved
-loop-i-preserved c = lead_turn _ _ c.loop-i.invariant c.loop-i-test.true c.if-table-i-ne0.false
+loop-i-preserved c = lead_turn _ _ c.loop-i.invariant c.loop-i-test.true (omega arith)
 
 pub returns-after-loop-i : goal.returns-after-loop-i
 returns-after-loop-i c = lead_end _ _ c.loop-i.invariant (omega (arith, c.loop-i-test.false))

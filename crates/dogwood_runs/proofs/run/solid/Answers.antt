@@ -22,7 +22,7 @@ pub loop-n-smaller : goal.loop-n-smaller
 loop-n-smaller c = (let b = c.loop-n-test.true in omega arith)
 
 pub loop-n-preserved : goal.loop-n-preserved
-loop-n-preserved c = back_turn _ _ c.loop-n.invariant c.loop-n-test.true c.if-table-n-ne0.false
+loop-n-preserved c = back_turn _ _ c.loop-n.invariant c.loop-n-test.true (omega arith)
 
 pub returns-after-loop-n : goal.returns-after-loop-n
 returns-after-loop-n c = back_none _ _ c.loop-n.invariant (omega (arith, c.loop-n-test.false))

@@ -50,7 +50,7 @@ pub loop-i-smaller : goal.loop-i-smaller
 loop-i-smaller c = omega arith
 
 pub loop-i-preserved : goal.loop-i-preserved
-loop-i-preserved c = sym (string_past c.args.s.now c.loop-i.i (plain c.args.s.now c.loop-i.i _ c.loop-i-test.true refl c.if-b-ge128.false) c.if-b-eq34.false c.if-b-eq92.false) ∙ c.loop-i.invariant
+loop-i-preserved c = sym (string_past c.args.s.now c.loop-i.i (plain c.args.s.now c.loop-i.i _ c.loop-i-test.true refl c.if-b-ge128.false) c.if-b-eq34.false (λ e. omega arith)) ∙ c.loop-i.invariant
 
 pub returns : goal.returns
 returns c = string_out c.args.s.now c.loop-i.i c.loop-i-test.false ∙ c.loop-i.invariant

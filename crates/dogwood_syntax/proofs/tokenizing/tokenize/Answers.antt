@@ -17,8 +17,8 @@ found : (src : List ℕ) (m : ℕ) (r : Found) → m ≡ length (mark_of src)
     → left_at (length (text_of src)) (decode (text_of src)).1 ≡ r
 found src m r e q = ap (λ (l : List ℕ). left_at (length l) (decode l).1) (sym (text_of_lem src m e)) ∙ sym q
 
-pub returns-then-src-gt1048576 : goal.returns-then-src-gt1048576
-returns-then-src-gt1048576 c = long_kept c.args.src.now c.args.table.now c.if-src-gt1048576.true
+pub returns-then-src-gt-LONGEST : goal.returns-then-src-gt-LONGEST
+returns-then-src-gt-LONGEST c = long_kept c.args.src.now c.args.table.now c.if-src-gt-LONGEST.true
 
 pub slice_bounds-first_bad-count : goal.slice_bounds-first_bad-count
 slice_bounds-first_bad-count c = omega (arith, mark_inside c.args.src.now, c.split_bom-start.ensures)
@@ -38,11 +38,11 @@ slice_bounds-tokenize_text-start c = omega (arith, mark_inside c.args.src.now, c
 pub returns-in-At : goal.returns-in-At
 returns-in-At c =
     simp c.split_bom-start.ensures
-    (bad_kept c.args.src.now c.args.table.now c.if-src-gt1048576.false _ (found c.args.src.now c.split_bom-start.result c.first_bad.result c.split_bom-start.ensures c.first_bad.ensures ∙ c.in-At.is))
+    (bad_kept c.args.src.now c.args.table.now c.if-src-gt-LONGEST.false _ (found c.args.src.now c.split_bom-start.result c.first_bad.result c.split_bom-start.ensures c.first_bad.ensures ∙ c.in-At.is))
 
 pub returns-in-Nothing : goal.returns-in-Nothing
 returns-in-Nothing c =
     let e = text_of_lem c.args.src.now c.split_bom-start.result c.split_bom-start.ensures in
-    text_kept c.args.src.now c.args.table.now c.if-src-gt1048576.false (found c.args.src.now c.split_bom-start.result c.first_bad.result c.split_bom-start.ensures c.first_bad.ensures ∙ c.in-Nothing.is)
+    text_kept c.args.src.now c.args.table.now c.if-src-gt-LONGEST.false (found c.args.src.now c.split_bom-start.result c.first_bad.result c.split_bom-start.ensures c.first_bad.ensures ∙ c.in-Nothing.is)
     c.tokenize_text.result (c.tokenize_text.ensures.value ∙ ap (λ (l : List ℕ). answer l (length c.args.table.now)) e)
     c.tokenize_text.new.table (c.tokenize_text.ensures.table_after ∙ ap (λ (l : List ℕ). table_after l c.args.table.now) e)

@@ -40,20 +40,20 @@ loop-i-preserved-then-b-ge128 c = sym (wide_past c.args.s.now c.loop-i.i c.loop-
 pub overflow_add-i-then-b-eq47 : goal.overflow_add-i-then-b-eq47
 overflow_add-i-then-b-eq47 c = omega arith
 
-pub loop-i-smaller-then-byte-eq47 : goal.loop-i-smaller-then-byte-eq47
-loop-i-smaller-then-byte-eq47 c = omega (arith, c.take_line-i.ensures, comment_inside c.args.s.now c.loop-i.i c.loop-i-test.true c.if-b-eq47.true)
+pub loop-i-smaller-then-comment : goal.loop-i-smaller-then-comment
+loop-i-smaller-then-comment c = omega (arith, c.take_line-i.ensures, comment_inside c.args.s.now c.loop-i.i c.loop-i-test.true c.if-b-eq47.true)
 
-pub loop-i-preserved-then-byte-eq47 : goal.loop-i-preserved-then-byte-eq47
-loop-i-preserved-then-byte-eq47 c = ap (scan_from c.args.s.now) c.take_line-i.ensures ∙ sym (byte_comment c.args.s.now c.loop-i.i c.loop-i-test.true c.if-b-eq47.true (sym c.byte.ensures ∙ c.if-byte-eq47.true)) ∙ c.loop-i.invariant
+pub loop-i-preserved-then-comment : goal.loop-i-preserved-then-comment
+loop-i-preserved-then-comment c = ap (scan_from c.args.s.now) c.take_line-i.ensures ∙ sym (byte_comment c.args.s.now c.loop-i.i c.loop-i-test.true c.if-b-eq47.true (sym c.byte-comment.ensures ∙ c.if-comment.true)) ∙ c.loop-i.invariant
 
-pub overflow_add-i-else-byte-eq47 : goal.overflow_add-i-else-byte-eq47
-overflow_add-i-else-byte-eq47 c = omega arith
+pub overflow_add-i-else-comment : goal.overflow_add-i-else-comment
+overflow_add-i-else-comment c = omega arith
 
-pub loop-i-smaller-else-byte-eq47 : goal.loop-i-smaller-else-byte-eq47
-loop-i-smaller-else-byte-eq47 c = omega arith
+pub loop-i-smaller-else-comment : goal.loop-i-smaller-else-comment
+loop-i-smaller-else-comment c = omega arith
 
-pub loop-i-preserved-else-byte-eq47 : goal.loop-i-preserved-else-byte-eq47
-loop-i-preserved-else-byte-eq47 c = sym (byte_past c.args.s.now c.loop-i.i c.loop-i-test.true c.if-b-ge128.false c.if-b-eq34.false (λ _ e. c.if-byte-eq47.false (c.byte.ensures ∙ e))) ∙ c.loop-i.invariant
+pub loop-i-preserved-else-comment : goal.loop-i-preserved-else-comment
+loop-i-preserved-else-comment c = sym (byte_past c.args.s.now c.loop-i.i c.loop-i-test.true c.if-b-ge128.false c.if-b-eq34.false (λ _ e. c.if-comment.false (c.byte-comment.ensures ∙ e))) ∙ c.loop-i.invariant
 
 pub overflow_add-i-else-b-eq47 : goal.overflow_add-i-else-b-eq47
 overflow_add-i-else-b-eq47 c = omega arith

@@ -14,15 +14,15 @@ returns-then-end-n c = ap found_of (sym (gap_ends c.args.table.now _ _ _ (sym c.
 pub returns-in_default : goal.returns-in_default
 returns-in_default c = ap found_of (sym (gap_short c.args.table.now _ _ _ (sym c.in_default.ensures) c.if-end-n.false) ∙ c.loop-kind.invariant)
 
-pub returns-then-start-n : goal.returns-then-start-n
-returns-then-start-n c =
+pub returns-then-meets : goal.returns-then-meets
+returns-then-meets c =
     let k = row_stands c.args.table.now c.loop-kind.i (sym c.in-Token.ensures) in
-    ap found_of (sym (gap_meets c.args.table.now _ _ _ k c.if-n-start.true c.if-start-n.true) ∙ c.loop-kind.invariant)
+    ap found_of (sym (gap_meets c.args.table.now _ _ _ k c.if-n-start.true c.if-meets.true) ∙ c.loop-kind.invariant)
 
 pub returns-then-n-start : goal.returns-then-n-start
 returns-then-n-start c =
     let k = row_stands c.args.table.now c.loop-kind.i (sym c.in-Token.ensures) in
-    ap found_of (sym (gap_misses c.args.table.now _ _ _ k c.if-n-start.true c.if-start-n.false) ∙ c.loop-kind.invariant)
+    ap found_of (sym (gap_misses c.args.table.now _ _ _ k c.if-n-start.true c.if-meets.false) ∙ c.loop-kind.invariant)
 
 pub returns-then-kind-ge2 : goal.returns-then-kind-ge2
 returns-then-kind-ge2 c =
