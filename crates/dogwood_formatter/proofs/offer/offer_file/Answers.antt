@@ -30,7 +30,7 @@ returns-then-out-size c =
     let w = c.top_level_items.ensures in
     let size = size_whole c.args.source.now c.args.outline.now c.args.table.now c.args.page e w in
     let same = measured_same c.args.source.now c.args.outline.now c.args.table.now c.args.page e w in
-    offered_none _ _ size (omega (arith, c.if-out-size.true, ap length same)) same
+    offered_none _ _ size (omega (arith, ap length same)) same
 
 pub slice_bounds-put_all-end : goal.slice_bounds-put_all-end
 slice_bounds-put_all-end c =
@@ -66,6 +66,5 @@ returns c =
     let old = size_whole c.args.source.now c.args.outline.now c.args.table.now c.args.page e first in
     let size = size_whole c.args.source.now c.args.outline.now c.args.table.now c.args.page e w in
     let room = ap length same in
-    let fits = c.if-out-size.false in
     offered_all _ _ size (omega arith)
     (file_written c.args.source.now c.args.outline.now c.args.table.now c.args.page e same (omega arith) c.put_all.ensures w)
