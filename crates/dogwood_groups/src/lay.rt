@@ -15,7 +15,7 @@ use dogwood_runs::{entry_at, filled, item_end, lead, piece_end, split_items, tri
 use pen::{add, clip, put_line};
 
 // How many bytes a piece has, and the column behind it.
-#[derive(Drop)]
+#[derive(Clone, Copy)]
 pub(crate) struct Laid {
     pub(crate) count: usize,
     pub(crate) col: usize,

@@ -10,14 +10,14 @@ pub struct Entry {
 }
 
 // The width of a text and the column behind it.
-#[derive(Drop)]
+#[derive(Clone, Copy)]
 pub struct Span {
     pub width: usize,
     pub col: usize,
 }
 
 // A part of a table, from word start to word end.
-#[derive(Drop)]
+#[derive(Clone, Copy)]
 pub struct Part {
     pub start: usize,
     pub end: usize,
@@ -31,7 +31,7 @@ pub struct Page {
 }
 
 // How many bytes were written, and how many LFs are due before what follows.
-#[derive(Drop)]
+#[derive(Clone, Copy)]
 pub struct Written {
     pub count: usize,
     pub feeds: usize,

@@ -70,7 +70,8 @@ pub(crate) fn shortage(text: &[u8], records: usize) -> Found
     requires { length text.now < 2 ^ 32 }
     ensures { result ≡ short_of records (length (tokens_at text.now 0)) }
 {
-    if text.len() <= records {
+    let enough = text.len() <= records;
+    if enough {
         return Found::Nothing;
     }
     let n = count(text);

@@ -7,9 +7,9 @@ use Rattle.dogwood_tokens.proofs.Seam.{count_all}
 use Rattle.dogwood_tokens.proofs.Tokens.{tokens_few}
 use Rattle.dogwood_syntax.proofs.table.shortage.Goals as goal
 
-pub returns-then-text-records : goal.returns-then-text-records
+pub returns-then-enough : goal.returns-then-enough
 unfolding short_of
-returns-then-text-records c = simp (le-ltb c.args.records (length (tokens_at c.args.text.now 0)) (omega (arith, tokens_few c.args.text.now 0 (omega arith), count_all c.args.text.now)))
+returns-then-enough c = simp (le-ltb c.args.records (length (tokens_at c.args.text.now 0)) (omega (arith, tokens_few c.args.text.now 0 (omega arith), count_all c.args.text.now)))
 
 pub returns-then-records-n : goal.returns-then-records-n
 unfolding short_of
