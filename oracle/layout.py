@@ -1,8 +1,9 @@
 """`lay_out` of dogwood_groups beside the Rust's: runs laid out at many widths and indents.
 
-`lay_out` stands in an inner crate and asks what the whole call will have established. So a copy of the crates stands in
-target/oracle/layout, in which one function more hands `lay_out` out under the same terms; the copy is proved, and its archive is
-called from here. That the terms are met is seen to here: the tokens are those of the second reading, and each run balances.
+`lay_out` stands in an inner crate and asks what the whole call will have established. So a copy of the crates stands in a temporary
+folder, in which one function more hands `lay_out` out under the same terms; the copy is proved, and its archive, which is kept in
+target/oracle/layout, is called from here. That the terms are met is seen to here: the tokens are those of the second reading, and
+each run balances.
 """
 import ctypes
 import itertools
@@ -11,6 +12,7 @@ import random
 import re
 import shutil
 import subprocess
+import tempfile
 import time
 
 import generate
@@ -18,11 +20,10 @@ import programs
 import reading
 import rust
 
-PLACE = os.path.join(rust.BUILT, "layout")
 CRATE = "dogwood_groups"
-ARCHIVE = os.path.join(PLACE, "target", "staticlib", f"lib{CRATE}.a")
+ARCHIVE = os.path.join(rust.BUILT, "layout", f"lib{CRATE}.a")
 EXPORT = """
-#[no_mangle]
+#[unsafe(no_mangle)]
 pub extern "C" fn dogwood_lay_out(out: &mut [u8], text: &[u8], table: &[u32], width: usize, indent: usize) -> usize
     {requires}
 {{
@@ -41,21 +42,28 @@ def exported(source):
     return terms.replace("Bounded page depth", "Bounded (record { width = width; indent = indent }) 0")
 
 
+def build_archive(place):
+    """Proves the copy in that folder and keeps its archive."""
+    shutil.copytree(os.path.join(rust.TOP, "crates"), os.path.join(place, "crates"), ignore=shutil.ignore_patterns("out"))
+    with open(os.path.join(place, "crates.txt"), "w", encoding="utf-8") as file:
+        file.write(re.sub(rf"(?m)^{CRATE}:", f"{CRATE} staticlib:", rust.read(rust.TOP, "crates.txt")))
+    crate = os.path.join(place, "crates", CRATE)
+    lay = rust.read(crate, "src", "lay.rt")
+    uses = [line for line in lay.split("\n") if line.startswith("ghost use")]
+    with open(os.path.join(crate, "src", "lib.rt"), "a", encoding="utf-8") as file:
+        file.write("\n".join(uses) + EXPORT.format(requires=exported(lay)))
+    subprocess.run(["rt", "lib"], cwd=crate, check=True, stdout=subprocess.DEVNULL)
+    os.makedirs(os.path.dirname(ARCHIVE), exist_ok=True)
+    shutil.copy(os.path.join(crate, "out", f"lib{CRATE}.a"), ARCHIVE)
+
+
 def built():
     """The functions of the copy, or None where there is no compiler for an archive here."""
     if os.uname().machine != "x86_64" or not shutil.which("gcc"):
         print("layout: an archive is called only on x86-64 with gcc: not compared")
         return None
-    shutil.rmtree(os.path.join(PLACE, "crates"), ignore_errors=True)
-    shutil.copytree(os.path.join(rust.TOP, "crates"), os.path.join(PLACE, "crates"))
-    shutil.copy(os.path.join(rust.TOP, "crates.txt"), PLACE)
-    if not os.path.isdir(os.path.join(PLACE, ".git")):
-        subprocess.run(["git", "init", "-q", PLACE], check=True)
-    crate = os.path.join(PLACE, "crates", CRATE, "src")
-    uses = [line for line in rust.read(crate, "lay.rt").split("\n") if line.startswith("ghost use")]
-    with open(os.path.join(crate, "lib.rt"), "a", encoding="utf-8") as file:
-        file.write("\n".join(uses) + EXPORT.format(requires=exported(rust.read(crate, "lay.rt"))))
-    subprocess.run(["rt", "staticlib", CRATE], cwd=PLACE, check=True, stdout=subprocess.DEVNULL)
+    with tempfile.TemporaryDirectory() as place:
+        build_archive(place)
     shared = ARCHIVE[:-1] + "so"
     subprocess.run(["gcc", "-shared", "-o", shared, "-Wl,--whole-archive", ARCHIVE, "-Wl,--no-whole-archive"], check=True)
     call = ctypes.CDLL(shared).dogwood_lay_out

@@ -112,16 +112,11 @@ def listed(crate):
 
 
 def run(crate, path):
-    """What the program writes, run under the kit's loader."""
-    subprocess.run(["rt", "check", crate], cwd=rust.TOP, check=True, stdout=subprocess.DEVNULL)
-    guide = subprocess.run(["rt", "doc"], check=True, stdout=subprocess.PIPE).stdout.decode().strip()
-    home = os.path.dirname(os.path.dirname(guide))
-    tools = os.path.join(home, "on", os.uname().machine, "toolchain")
-    emulator = os.path.join(tools, "bin", "qemu-x86_64")
-    command = [emulator] if os.access(emulator, os.X_OK) else []
-    command += [os.path.join(tools, "lib", "ld-linux-x86-64.so.2"), "--library-path", os.path.join(tools, "lib")]
-    command += [os.path.join(rust.TOP, "target", "bin", crate), path]
-    return subprocess.run(command, check=True, stdout=subprocess.PIPE).stdout
+    """What the program writes, which is proved and built first. What rt says of that comes on stderr."""
+    done = subprocess.run(["rt", "run", "--", path], cwd=os.path.join(rust.TOP, "crates", crate), stdin=subprocess.DEVNULL, capture_output=True)
+    if done.returncode != 0:
+        raise SystemExit(f"oracle: {crate} was not built or did not end well:\n{done.stderr.decode(errors='replace')[-3000:]}")
+    return done.stdout
 
 
 def compare(name, count, seed):

@@ -1,7 +1,7 @@
 """The definitions of dogwood_rules, computed in the checker, row by row.
 
-A copy of the repository's crates stands in target/oracle/rules with one crate more, whose files state each row as an equation and
-prove it by computing. What a row must answer comes from the Rust and the second reading, never from the definitions.
+A copy of the crate stands in a temporary folder with one crate more, whose files state each row as an equation and prove it by
+computing. What a row must answer comes from the Rust and the second reading, never from the definitions.
 """
 import itertools
 import os
@@ -9,6 +9,7 @@ import random
 import re
 import shutil
 import subprocess
+import tempfile
 import time
 
 import expected
@@ -17,19 +18,16 @@ import lists
 import reading
 import rust
 
-PLACE = os.path.join(rust.BUILT, "rules")
 CRATE = "rule_rows"
 ROWS_A_FILE = 100
 USUAL_BYTES = 400
 
 HEAD = """-- Rows made by a seed: each is computed.
-use mathlib.Core.Path.{_≡_, refl}
-use mathlib.Core.List.{List, [], _∷_}
-use Prim.Native.Nat.{ℕ}
-use Rattle·dogwood_rules.specs.Layout.{Settings}
-use Rattle·dogwood_rules.specs.Answer.{Answer, answer}
-use Rattle·dogwood_rules.specs.Alone.{Alone, tokenised, tested}
-use Rattle·dogwood_rules.specs.Compute.{everything}
+use Rattle.std.specs.Prelude.{◌≡◌, refl, List, [], ◌∷◌, ℕ}
+use Rattle.dogwood_rules.specs.Layout.{Settings}
+use Rattle.dogwood_rules.specs.Answer.{Answer, answer}
+use Rattle.dogwood_rules.specs.Alone.{Alone, tokenised, tested}
+use Rattle.dogwood_rules.specs.Compute.{everything}
 
 abbrev setting : ℕ → ℕ → Settings
 setting w i = record { width = w; indent = i }
@@ -92,25 +90,22 @@ def chosen(count, seed):
     return found
 
 
-def copy_of_repository():
-    shutil.rmtree(os.path.join(PLACE, "crates"), ignore_errors=True)
-    os.makedirs(PLACE, exist_ok=True)
+def copy_to(place):
+    """The crate of the rows, which is still to be written, in a copy of what it needs."""
     rules = os.path.join("crates", "dogwood_rules")
-    shutil.copytree(os.path.join(rust.TOP, rules), os.path.join(PLACE, rules))
-    with open(os.path.join(PLACE, "crates.txt"), "w", encoding="utf-8") as file:
+    shutil.copytree(os.path.join(rust.TOP, rules), os.path.join(place, rules), ignore=shutil.ignore_patterns("out"))
+    with open(os.path.join(place, "crates.txt"), "w", encoding="utf-8") as file:
         file.write(f"dogwood_rules:\n{CRATE}: dogwood_rules\n")
-    if not os.path.isdir(os.path.join(PLACE, ".git")):
-        subprocess.run(["git", "init", "-q", PLACE], check=True)
+    return os.path.join(place, "crates", CRATE)
 
 
-def write_rows(rows):
+def write_rows(crate, rows):
     """The files of the crate, and the row at each line of each."""
-    crate = os.path.join(PLACE, "crates", CRATE)
-    shutil.rmtree(crate, ignore_errors=True)
     for folder in ("src", "specs"):
+        shutil.rmtree(os.path.join(crate, folder), ignore_errors=True)
         os.makedirs(os.path.join(crate, folder))
     with open(os.path.join(crate, "src", "lib.rt"), "w", encoding="utf-8") as file:
-        file.write("// Rows of the definitions. No code.\n")
+        file.write("// Rows of the definitions. No code.\n#![tactic(auto)]\n")
     where, names, keys = {}, [], sorted(rows)
     for first in range(0, len(keys), ROWS_A_FILE):
         name = f"Rows{first // ROWS_A_FILE}"
@@ -126,9 +121,8 @@ def write_rows(rows):
     return where
 
 
-def check():
-    environment = dict(os.environ, RT_JOBS="1", RT_CUT="0")
-    done = subprocess.run(["rt", "check", CRATE], cwd=PLACE, env=environment, stdout=subprocess.PIPE, stderr=subprocess.STDOUT)
+def check(crate):
+    done = subprocess.run(["rt", "check"], cwd=crate, stdout=subprocess.PIPE, stderr=subprocess.STDOUT)
     return done.returncode, done.stdout.decode(errors="replace")
 
 
@@ -140,12 +134,12 @@ def refused_rows(said, where):
     return found
 
 
-def hold(rows):
+def hold(crate, rows):
     """Which rows the checker refuses, and why; None where it could not tell."""
     left, refused = dict(rows), {}
     while left:
-        where = write_rows(left)
-        status, said = check()
+        where = write_rows(crate, left)
+        status, said = check(crate)
         if status == 0:
             return refused
         found = refused_rows(said, where)
@@ -176,8 +170,8 @@ def compare(count, seed):
             rows[index] = tests_row(case, table_room)
         else:
             rows[index] = call_row(case, table_room, output_room)
-    copy_of_repository()
-    refused = hold(rows)
+    with tempfile.TemporaryDirectory() as place:
+        refused = hold(copy_to(place), rows)
     if refused is None:
         print("rules: the checker could not tell")
         return 1
