@@ -17,14 +17,14 @@ use Rattle.dogwood_rules.specs.Answer.{Answer, checked, refused, answered, answe
 use Rattle.dogwood_rules.specs.Promises.{over, Tokenises, Answered}
 use Rattle.utf8.proofs.Mark.{text_of_lem}
 use Rattle.dogwood_syntax.specs.declared.tokenizing.Tokenized.{Tokenized}
-use Rattle.dogwood_syntax.specs.Numbers.{number as numberTokens, value}
+use Rattle.dogwood_syntax.specs.Numbers.{number as number_tokens, value}
 use Rattle.dogwood_outline.specs.declared.judging.Verdict.{Verdict}
 use Rattle.dogwood_outline.specs.Pass.{placed_in}
-use Rattle.dogwood_outline.specs.Verdicts.{Judges, number as numberJudged, place as placeJudged}
+use Rattle.dogwood_outline.specs.Verdicts.{Judges, number as number_judged, place as place_judged}
 use Rattle.dogwood_outline.specs.Judges.{JudgesIn}
 use Rattle.dogwood_outline.proofs.Judgements.{judges_table}
 use Rattle.dogwood_outline.proofs.Outcomes.{kept as same-call, cut, same_places, filled, part_filled}
-use Rattle.dogwood_outline.proofs.Answers.{written as writtenUnder, answer-judged}
+use Rattle.dogwood_outline.proofs.Answers.{written as written_under, answer-judged}
 use Rattle.dogwood_formatter.specs.declared.format.Formatted.{Formatted}
 use Rattle.dogwood_formatter.specs.declared.format.Formatted.TheVariants.{NoRoom}
 use Rattle.dogwood_formatter.specs.Numbers.{number, place, length as written}
@@ -59,10 +59,10 @@ module _ {bytes old new : List ℕ} {len : ℕ} (o : Offered bytes old len new) 
 -- Judged behind the mark ---------------------------------------------------------------------------------------------------
 
 pub judged_as : (source outline : List ℕ) {table : List ℕ} {mark : ℕ} {v : Verdict} (w : Verdict) → table ≡ words_of (placed_in (text_of source)) → mark ≡ length (mark_of source) → v ≡ w
-    → JudgesIn (take (length source - mark) (drop mark source)) table outline (numberJudged v) (placeJudged v) → Judges (text_of source) outline (numberJudged w) (placeJudged w)
+    → JudgesIn (take (length source - mark) (drop mark source)) table outline (number_judged v) (place_judged v) → Judges (text_of source) outline (number_judged w) (place_judged w)
 judged_as source outline {table} {mark} {v} w k e q j =
-    subst (λ (x : Verdict). Judges (text_of source) outline (numberJudged x) (placeJudged x)) q
-    (judges_table (text_of source) outline (subst (λ (l : List ℕ). JudgesIn (text_of source) l outline (numberJudged v) (placeJudged v)) k (subst (λ (l : List ℕ). JudgesIn l table outline (numberJudged v) (placeJudged v)) (text_of_lem source mark e) j)))
+    subst (λ (x : Verdict). Judges (text_of source) outline (number_judged x) (place_judged x)) q
+    (judges_table (text_of source) outline (subst (λ (l : List ℕ). JudgesIn (text_of source) l outline (number_judged v) (place_judged v)) k (subst (λ (l : List ℕ). JudgesIn l table outline (number_judged v) (place_judged v)) (text_of_lem source mark e) j)))
 
 -- The whole call -----------------------------------------------------------------------------------------------------------
 
@@ -118,21 +118,21 @@ module _ (source outline table old : List ℕ) where
       by true e = record { answers = simp e; clean = simp e }
       by false e = absurd (n (simp e))
 
-  module _ (T : List ℕ) {x : Tokenized} (y : Tokenized) (q : x ≡ y) (t : Tokenises source table (numberTokens x) (value x) T) where
-    kept : Tokenises source table (numberTokens y) (value y) T
+  module _ (T : List ℕ) {x : Tokenized} (y : Tokenized) (q : x ≡ y) (t : Tokenises source table (number_tokens x) (value x) T) where
+    kept : Tokenises source table (number_tokens y) (value y) T
     kept = same-call source table T y q t
 
-    stop : (numberTokens y ≡ 0 → ⊥) → Stopped (source_of source)
+    stop : (number_tokens y ≡ 0 → ⊥) → Stopped (source_of source)
     unfolding tokenised
     stop z = stopped_as (source_of source) (λ (h : (alone (source_of source)).number ≡ 0). z (kept.numbered ∙ h))
 
     -- 11, 12, 13
-    pub refused_answered : (numberTokens y ≡ 0 → ⊥) → eqb (numberTokens y) 1 ≡ false → Answered house source outline table old (numberTokens y) (value y) 0 T old
+    pub refused_answered : (number_tokens y ≡ 0 → ⊥) → eqb (number_tokens y) 1 ≡ false → Answered house source outline table old (number_tokens y) (value y) 0 T old
     unfolding tokenised answer refused
     refused_answered z o =
         let s = stop z in
         let k = kept in
-        let a : whole ≡ refused (numberTokens y) (value y) =
+        let a : whole ≡ refused (number_tokens y) (value y) =
         s.answers
         ∙ (λ i. if eqb (sym k.numbered i) 1 then held 1 (sym k.valued i) source [] else refused (sym k.numbered i) (sym k.valued i))
         ∙ simp o in
@@ -145,18 +145,18 @@ module _ (source outline table old : List ℕ) where
         }
 
     -- 1
-    pub unended_answered : numberTokens y ≡ 1 → {r : Formatted} {new : List ℕ} → Given 1 (value y) source old r new
+    pub unended_answered : number_tokens y ≡ 1 → {r : Formatted} {new : List ℕ} → Given 1 (value y) source old r new
         → Answered house source outline table old (number r) (place r) (written r) T new
     unfolding tokenised answer
     unended_answered o g =
-        let s = stop (λ (h : numberTokens y ≡ 0). omega arith) in
+        let s = stop (λ (h : number_tokens y ≡ 0). omega arith) in
         let k = kept in
         given-answered 1 (value y) source []
         (s.answers ∙ (λ i. if eqb ((sym k.numbered ∙ o) i) 1 then held 1 (sym k.valued i) source [] else refused ((sym k.numbered ∙ o) i) (sym k.valued i)))
         (k.tabled ∙ ap (λ (l : List ℕ). over l table) s.clean)
         g
 
-    module _ (o : numberTokens y ≡ 0) where
+    module _ (o : number_tokens y ≡ 0) where
       cut_text : source_of source ≡ cut_into (placed_in (text_of source))
       cut_text = (cut source table T y q t o).is ∙ ap cut_into (same_places source table T y q t o)
 
@@ -168,7 +168,7 @@ module _ (source outline table old : List ℕ) where
       pub settled_answered : {r : Formatted} {new : List ℕ} → Settled source outline old r new → Answered house source outline table old (number r) (place r) (written r) T new
       settled_answered s =
           let room : 3 * length (placed_in (text_of source)) ≤ length table = let a = (cut source table T y q t o).ample in let e = ap (λ (ps : List Placed). length ps) (same_places source table T y q t o) in omega arith in
-          given-answered s.verdict s.location (writtenUnder house source outline (placed_in (text_of source)) s.verdict) (words_of (placed_in (text_of source)))
+          given-answered s.verdict s.location (written_under house source outline (placed_in (text_of source)) s.verdict) (words_of (placed_in (text_of source)))
           (answer-judged house source outline (length table) (length old) (placed_in (text_of source)) cut_text room s.judged)
           (filled source table T y q t o)
           s.given

@@ -9,7 +9,7 @@ use lib.Dec.{eqb}
 use lib.ListN.{length, take, drop, length-append}
 use borrow.Author.Tests.{le-leb, lt-leb, eqb-true}
 use borrow.Rule.Slice.PartMut.{put_mid}
-use Rattle.pen.specs.Over.{cap, Wrote, over as writtenOver}
+use Rattle.pen.specs.Over.{cap, Wrote, over as written_over}
 use Rattle.pen.proofs.Laws.{over-fits, over-part, length_over}
 use Rattle.dogwood_rules.specs.Utf8.{encode, marked, mark_of, text_of}
 use Rattle.dogwood_rules.specs.Outline.{statements}
@@ -26,7 +26,7 @@ use Rattle.dogwood_formatter.specs.Offers.{Offered}
 use Rattle.dogwood_layout.proofs.Totals.{file_bound}
 
 -- there is room
-pub offered_all : (bytes old : List ℕ) {r : ℕ} {new : List ℕ} → r ≡ length bytes → length bytes ≤ length old → new ≡ writtenOver old bytes → Offered bytes old r new
+pub offered_all : (bytes old : List ℕ) {r : ℕ} {new : List ℕ} → r ≡ length bytes → length bytes ≤ length old → new ≡ written_over old bytes → Offered bytes old r new
 offered_all bytes old e h w =
     record {
       count = e;
@@ -92,15 +92,15 @@ module _ (source outline ws : List ℕ) (p : Page) {mark : ℕ} (e : mark ≡ le
 
   -- measuring writes nothing
   pub measured_same : {old : List ℕ} {r : ℕ} {new : List ℕ} → WroteText (laid_text slice) (take 0 (drop 0 old)) r new → put_mid 0 0 old new ≡ old
-  unfolding writtenOver
+  unfolding written_over
   measured_same {old} w = ap (λ (l : List ℕ). l ++ old) w.bytes
 
   pub file_written : {old xs ys new : List ℕ} {n r : ℕ} → xs ≡ old → length whole ≤ length old → Wrote xs (take (mark - 0) (drop 0 source)) n ys → WroteText (laid_text slice) (take (length ys - mark) (drop mark ys)) r new
-      → put_mid mark (length ys - mark) ys new ≡ writtenOver old whole
+      → put_mid mark (length ys - mark) ys new ≡ written_over old whole
   file_written {old} {xs} {ys} {new} q h a b =
       let size : mark - 0 ≡ length (mark_of source) = omega arith in
-      let front : ys ≡ writtenOver old (mark_of source) = a.bytes ∙ (λ j. writtenOver (q j) ((ap (λ (n : ℕ). take n source) size ∙ mark_front source) j)) in
+      let front : ys ≡ written_over old (mark_of source) = a.bytes ∙ (λ j. written_over (q j) ((ap (λ (n : ℕ). take n source) size ∙ mark_front source) j)) in
       let l = ap length front ∙ length_over old (mark_of source) in
       let t = length-append (mark_of source) (encode (laid_text (text_of source))) in
       over-part old ys new (mark_of source) (encode (laid_text (text_of source))) mark front (omega arith)
-      (b.bytes ∙ ap (λ (text : List ℕ). writtenOver (take (length ys - mark) (drop mark ys)) (encode (laid_text text))) slice_text)
+      (b.bytes ∙ ap (λ (text : List ℕ). written_over (take (length ys - mark) (drop mark ys)) (encode (laid_text text))) slice_text)

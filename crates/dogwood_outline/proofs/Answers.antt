@@ -26,45 +26,45 @@ use Rattle.dogwood_outline.specs.Verdicts.{nested, filled, commented, judged, Ju
 abbrev pub written : Settings → List ℕ → List ℕ → List Placed → ℕ → List ℕ
 written S source outline ps n = if eqb n 0 then mark_of source ++ encode (join_pieces S (pieces (statements outline).0 ps)) else source
 
-module _ (S : Settings) (source outline : List ℕ) (tableRoom outputRoom : ℕ) (ps : List Placed) where
+module _ (S : Settings) (source outline : List ℕ) (table_room output_room : ℕ) (ps : List Placed) where
   abbrev told : ℕ × ℕ → Answer
-  told j = checked S source outline tableRoom outputRoom j.0 j.1 (written S source outline ps j.0) (words_of ps)
+  told j = checked S source outline table_room output_room j.0 j.1 (written S source outline ps j.0) (words_of ps)
 
-  by_depth : (qs : List Piece) → pieces (statements outline).0 ps ≡ qs → (o : Option ℕ) → A.nested S source outline tableRoom outputRoom ps qs o ≡ told (nested o)
+  by_depth : (qs : List Piece) → pieces (statements outline).0 ps ≡ qs → (o : Option ℕ) → A.nested S source outline table_room output_room ps qs o ≡ told (nested o)
   unfolding A.nested nested
-  by_depth qs e none = ap (λ (x : List Piece). checked S source outline tableRoom outputRoom 0 0 (mark_of source ++ encode (join_pieces S x)) (words_of ps)) (sym e)
+  by_depth qs e none = ap (λ (x : List Piece). checked S source outline table_room output_room 0 0 (mark_of source ++ encode (join_pieces S x)) (words_of ps)) (sym e)
   by_depth qs e (some n) = refl
 
-  by_pieces : (qs : List Piece) → pieces (statements outline).0 ps ≡ qs → A.filled S source outline tableRoom outputRoom ps qs ≡ told (filled qs (deep_opener (statements outline).0 ps))
+  by_pieces : (qs : List Piece) → pieces (statements outline).0 ps ≡ qs → A.filled S source outline table_room output_room ps qs ≡ told (filled qs (deep_opener (statements outline).0 ps))
   unfolding A.filled filled
   by_pieces [] e = refl
   by_pieces (q ∷ qs) e = by_depth (q ∷ qs) e (deep_opener (statements outline).0 ps)
 
-  by_comment : (o : Option ℕ) → A.commented S source outline tableRoom outputRoom ps o ≡ told (commented o (pieces (statements outline).0 ps) (deep_opener (statements outline).0 ps))
+  by_comment : (o : Option ℕ) → A.commented S source outline table_room output_room ps o ≡ told (commented o (pieces (statements outline).0 ps) (deep_opener (statements outline).0 ps))
   unfolding A.commented commented
   by_comment none = by_pieces (pieces (statements outline).0 ps) refl
   by_comment (some n) = refl
 
-  by_fit : A.fitted S source outline tableRoom outputRoom ps (fits (length (text_of source)) ps outline) ≡ told (judged (length (text_of source)) ps outline)
+  by_fit : A.fitted S source outline table_room output_room ps (fits (length (text_of source)) ps outline) ≡ told (judged (length (text_of source)) ps outline)
   unfolding A.fitted judged
   by_fit = by (fits (length (text_of source)) ps outline) refl
     where
-      by : (b : Bool) → fits (length (text_of source)) ps outline ≡ b → A.fitted S source outline tableRoom outputRoom ps (fits (length (text_of source)) ps outline) ≡ told (judged (length (text_of source)) ps outline)
+      by : (b : Bool) → fits (length (text_of source)) ps outline ≡ b → A.fitted S source outline table_room output_room ps (fits (length (text_of source)) ps outline) ≡ told (judged (length (text_of source)) ps outline)
       by true e = rw e (by_comment (first_comment (statements outline).0 ps))
       by false e = rw e refl
 
   -- a source that is cut into tokens for which there is room: the answer has the verdict's number and place
-  pub answer-judged : source_of source ≡ cut_into ps → 3 * length ps ≤ tableRoom → {n place : ℕ} → Judges (text_of source) outline n place
-      → answer S source outline tableRoom outputRoom ≡ checked S source outline tableRoom outputRoom n place (written S source outline ps n) (words_of ps)
+  pub answer-judged : source_of source ≡ cut_into ps → 3 * length ps ≤ table_room → {n place : ℕ} → Judges (text_of source) outline n place
+      → answer S source outline table_room output_room ≡ checked S source outline table_room output_room n place (written S source outline ps n) (words_of ps)
   unfolding answer answered placed_in
   answer-judged c h {n} {place} j =
       let w = source_whole source ps c in
       let end = length (text_of source) in
-      ap (answered S source outline tableRoom outputRoom) c
-      ∙ ap (λ (b : Bool). if b then A.refused 13 (length ps) else A.fitted S source outline tableRoom outputRoom ps (fits end ps outline)) (le-ltb tableRoom (3 * length ps) h)
+      ap (answered S source outline table_room output_room) c
+      ∙ ap (λ (b : Bool). if b then A.refused 13 (length ps) else A.fitted S source outline table_room output_room ps (fits end ps outline)) (le-ltb table_room (3 * length ps) h)
       ∙ by_fit
       ∙ ap (λ (qs : List Placed). told (judged end qs outline)) w.cut
-      ∙ (λ i. checked S source outline tableRoom outputRoom (sym j.numbered i) (sym j.located i) (written S source outline ps (sym j.numbered i)) (words_of ps))
+      ∙ (λ i. checked S source outline table_room output_room (sym j.numbered i) (sym j.located i) (written S source outline ps (sym j.numbered i)) (words_of ps))
 
 -- What holds where the number is 0 --------------------------------------------------------------------------------------
 

@@ -14,14 +14,14 @@ use Rattle.dogwood_words.specs.Records.{spans_at}
 use Rattle.dogwood_words.specs.Search.{found_of, absent}
 use Rattle.dogwood_words.specs.Rows.{gap_in, part_in, walked_of}
 use Rattle.dogwood_outline.specs.Table.{parts_in}
-use Rattle.dogwood_words.proofs.Founds.{found_none as Found-Nothing, found_some}
+use Rattle.dogwood_words.proofs.Founds.{found_none as nothing_found, found_some}
 use Rattle.dogwood_words.proofs.Bools.{and_false}
 
 pub found_at : (o : Option ℕ) {j : ℕ} → found_of o ≡ At j → o ≡ some j
 found_at o e = found_some o (sym e)
 
 pub found_none : (o : Option ℕ) → found_of o ≡ Nothing → o ≡ none
-found_none o e = Found-Nothing o (sym e)
+found_none o e = nothing_found o (sym e)
 
 sound_some : (o : Option (Bool × ℕ)) {m : Bool} {j : ℕ} → walked_of o ≡ Sound m j → o ≡ some (m, j)
 sound_some none e = absurd (let z : ◌≡◌ {A = ℕ} 0 1 = cc in omega arith)

@@ -49,17 +49,17 @@ only_long source e = go (ltb 1048576 (length source)) refl
         absurd (let z : false ≡ true = sym (decoded_short source (decode (text_of source))) ∙ ap is_long (rw q at e) in let y : ◌≡◌ {A = ℕ} 0 1 = cc in omega arith)
 
 module _ (source : List ℕ) (h : 1048576 < length source) where
-  pub long_answer : (S : Settings) (outline : List ℕ) (tableRoom outputRoom : ℕ) → answer S source outline tableRoom outputRoom ≡ refused 11 0
+  pub long_answer : (S : Settings) (outline : List ℕ) (table_room output_room : ℕ) → answer S source outline table_room output_room ≡ refused 11 0
   unfolding answer answered
-  long_answer S outline tableRoom outputRoom = ap (answered S source outline tableRoom outputRoom) (source_long source h)
+  long_answer S outline table_room output_room = ap (answered S source outline table_room output_room) (source_long source h)
 
-  pub long_tokenised : (tableRoom : ℕ) → tokenised source tableRoom ≡ stopped 11 0
+  pub long_tokenised : (table_room : ℕ) → tokenised source table_room ≡ stopped 11 0
   unfolding tokenised told
-  long_tokenised tableRoom = rw (source_long source h) refl
+  long_tokenised table_room = rw (source_long source h) refl
 
-  pub long_tested : (outline : List ℕ) (tableRoom : ℕ) → tested source outline tableRoom ≡ stopped 11 0
+  pub long_tested : (outline : List ℕ) (table_room : ℕ) → tested source outline table_room ≡ stopped 11 0
   unfolding tested told
-  long_tested outline tableRoom = rw (source_long source h) refl
+  long_tested outline table_room = rw (source_long source h) refl
 
   pub long_reading : (n : ℕ) → reading source n ≡ refused-reading 11 0
   unfolding reading reading_of

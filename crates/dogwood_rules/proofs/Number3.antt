@@ -30,30 +30,30 @@ use Rattle.dogwood_rules.proofs.Pieces.{pieces_say}
 
 -- What an answer of 0 shows -----------------------------------------------------------------------------------------------
 
-module _ (S : Settings) (source outline : List ℕ) (tableRoom outputRoom : ℕ) where
-  checked_zero : (n place : ℕ) (output table : List ℕ) → (checked S source outline tableRoom outputRoom n place output table).number ≡ 0
-      → (n ≡ 0) × ((checked S source outline tableRoom outputRoom n place output table).output ≡ output)
+module _ (S : Settings) (source outline : List ℕ) (table_room output_room : ℕ) where
+  checked_zero : (n place : ℕ) (output table : List ℕ) → (checked S source outline table_room output_room n place output table).number ≡ 0
+      → (n ≡ 0) × ((checked S source outline table_room output_room n place output table).output ≡ output)
   unfolding checked
-  checked_zero n place output table e = go (leb (length output) outputRoom) refl
+  checked_zero n place output table e = go (leb (length output) output_room) refl
     where
-      go : (b : Bool) → leb (length output) outputRoom ≡ b → (n ≡ 0) × ((checked S source outline tableRoom outputRoom n place output table).output ≡ output)
+      go : (b : Bool) → leb (length output) output_room ≡ b → (n ≡ 0) × ((checked S source outline table_room output_room n place output table).output ≡ output)
       go true q = (rw q at e, rw q refl)
       go false q = let z : ◌≡◌ {A = ℕ} 15 0 = rw q at e in absurd (omega arith)
 
-  nested-zero : (ps : List Placed) (qs : List Piece) (o : Option ℕ) → (nested S source outline tableRoom outputRoom ps qs o).number ≡ 0
-      → (nested S source outline tableRoom outputRoom ps qs o).output ≡ mark_of source ++ encode (join_pieces S qs)
+  nested-zero : (ps : List Placed) (qs : List Piece) (o : Option ℕ) → (nested S source outline table_room output_room ps qs o).number ≡ 0
+      → (nested S source outline table_room output_room ps qs o).output ≡ mark_of source ++ encode (join_pieces S qs)
   unfolding nested
   nested-zero ps qs (some place) e = let z : ◌≡◌ {A = ℕ} 5 0 = (checked_zero 5 place source (words_of ps) e).0 in absurd (omega arith)
   nested-zero ps qs none e = (checked_zero 0 0 (mark_of source ++ encode (join_pieces S qs)) (words_of ps) e).1
 
-  filled_zero : (ps : List Placed) (qs : List Piece) → (filled S source outline tableRoom outputRoom ps qs).number ≡ 0
-      → (filled S source outline tableRoom outputRoom ps qs).output ≡ mark_of source ++ encode (join_pieces S qs)
+  filled_zero : (ps : List Placed) (qs : List Piece) → (filled S source outline table_room output_room ps qs).number ≡ 0
+      → (filled S source outline table_room output_room ps qs).output ≡ mark_of source ++ encode (join_pieces S qs)
   unfolding filled
   filled_zero ps [] e = let z : ◌≡◌ {A = ℕ} 3 0 = (checked_zero 3 0 source (words_of ps) e).0 in absurd (omega arith)
   filled_zero ps (q ∷ qs) e = nested-zero ps (q ∷ qs) (deep_opener (statements outline).0 ps) e
 
-  commented-zero : (ps : List Placed) (o : Option ℕ) → (commented S source outline tableRoom outputRoom ps o).number ≡ 0
-      → (o ≡ none) × ((commented S source outline tableRoom outputRoom ps o).output ≡ mark_of source ++ encode (join_pieces S (pieces (statements outline).0 ps)))
+  commented-zero : (ps : List Placed) (o : Option ℕ) → (commented S source outline table_room output_room ps o).number ≡ 0
+      → (o ≡ none) × ((commented S source outline table_room output_room ps o).output ≡ mark_of source ++ encode (join_pieces S (pieces (statements outline).0 ps)))
   unfolding commented
   commented-zero ps (some place) e = let z : ◌≡◌ {A = ℕ} 2 0 = (checked_zero 2 place source (words_of ps) e).0 in absurd (omega arith)
   commented-zero ps none e = (refl, filled_zero ps (pieces (statements outline).0 ps) e)
@@ -64,8 +64,8 @@ module _ (S : Settings) (source outline : List ℕ) (tableRoom outputRoom : ℕ)
     pub free : first_comment (statements outline).0 ps ≡ none
     pub out : output ≡ mark_of source ++ encode (join_pieces S (pieces (statements outline).0 ps))
 
-  fitted_zero : (ps : List Placed) (b : Bool) → fits (length (text_of source)) ps outline ≡ b → (fitted S source outline tableRoom outputRoom ps b).number ≡ 0
-      → LaidOut ps (fitted S source outline tableRoom outputRoom ps b).output
+  fitted_zero : (ps : List Placed) (b : Bool) → fits (length (text_of source)) ps outline ≡ b → (fitted S source outline table_room output_room ps b).number ≡ 0
+      → LaidOut ps (fitted S source outline table_room output_room ps b).output
   unfolding fitted
   fitted_zero ps true f e = let h = commented-zero ps (first_comment (statements outline).0 ps) e in record { fit = f; free = h.0; out = h.1 }
   fitted_zero ps false f e = let z : ◌≡◌ {A = ℕ} 4 0 = (checked_zero 4 0 source (words_of ps) e).0 in absurd (omega arith)
@@ -75,19 +75,19 @@ module _ (S : Settings) (source outline : List ℕ) (tableRoom outputRoom : ℕ)
     pub whole : Whole source tokens
     pub laid : LaidOut tokens output
 
-  answered_zero : (s : Source) → source_of source ≡ s → (answered S source outline tableRoom outputRoom s).number ≡ 0 → Zero (answered S source outline tableRoom outputRoom s).output
+  answered_zero : (s : Source) → source_of source ≡ s → (answered S source outline table_room output_room s).number ≡ 0 → Zero (answered S source outline table_room output_room s).output
   unfolding answered refused
   answered_zero too_long q e = absurd (omega arith)
   answered_zero (not_utf8 place) q e = absurd (omega arith)
   answered_zero (unended before place) q e = let z : ◌≡◌ {A = ℕ} 1 0 = (checked_zero 1 place source [] e).0 in absurd (omega arith)
-  answered_zero (cut_into ps) q e = go (ltb tableRoom (3 * length ps)) refl
+  answered_zero (cut_into ps) q e = go (ltb table_room (3 * length ps)) refl
     where
-      go : (b : Bool) → ltb tableRoom (3 * length ps) ≡ b → Zero (answered S source outline tableRoom outputRoom (cut_into ps)).output
+      go : (b : Bool) → ltb table_room (3 * length ps) ≡ b → Zero (answered S source outline table_room output_room (cut_into ps)).output
       go true p = let z : ◌≡◌ {A = ℕ} 13 0 = rw p at e in absurd (omega arith)
       go false p =
           record { tokens = ps; whole = source_whole source ps q; laid = rw p (fitted_zero ps (fits (length (text_of source)) ps outline) refl (rw p at e)) }
 
-  pub answer_zero : (answer S source outline tableRoom outputRoom).number ≡ 0 → Zero (answer S source outline tableRoom outputRoom).output
+  pub answer_zero : (answer S source outline table_room output_room).number ≡ 0 → Zero (answer S source outline table_room output_room).output
   unfolding answer
   answer_zero e = answered_zero (source_of source) refl e
 
@@ -100,13 +100,13 @@ tokens-placed at (t ∷ ts) = ap (λ (l : List Token). t ∷ l) (tokens-placed (
 
 pub number3 : Number3
 unfolding layout_of pieces_of tokens_in codes_of behind_mark made_of
-number3 S source outline tableRoom outputRoom e =
-    let z = answer_zero S source outline tableRoom outputRoom e in
+number3 S source outline table_room output_room e =
+    let z = answer_zero S source outline table_room output_room e in
     let cs = (decode (text_of source)).0 in
     let ts = (tokenise cs).0 in
     let ps = placed 0 ts in
     let ss = (statements outline).0 in
-    let l : LaidOut S source outline tableRoom outputRoom ps (answer S source outline tableRoom outputRoom).output = subst (λ (qs : List Placed). LaidOut S source outline tableRoom outputRoom qs (answer S source outline tableRoom outputRoom).output) z.whole.cut z.laid in
+    let l : LaidOut S source outline table_room output_room ps (answer S source outline table_room output_room).output = subst (λ (qs : List Placed). LaidOut S source outline table_room output_room qs (answer S source outline table_room output_room).output) z.whole.cut z.laid in
     let f = fits_says (length (text_of source)) ps outline l.fit in
     let c : Chain (tokenise cs).1 (tokens ps) = subst (λ (us : List Token). Chain (tokenise cs).1 us) (sym (tokens-placed 0 ts)) (tokenise_made cs).chain in
     let p = pieces_say ss ps c l.free f.outside f.covered f.balance f.used in
@@ -129,8 +129,8 @@ unfolding mark_of
 same-mark a b e = rw e refl
 
 pub number3' : Number3'
-number3' S source outline tableRoom outputRoom e =
-    let p = number3 S source outline tableRoom outputRoom e in
+number3' S source outline table_room output_room e =
+    let p = number3 S source outline table_room output_room e in
     let text = ap (λ (r : List ℕ × List ℕ). r.0) p.readable in
     let cut = ap tokenise text ∙ p.made in
     record { valid = ap (λ (r : List ℕ × List ℕ). r.1) p.readable; ended = ap (λ (r : List Token × List ℕ). r.1) cut; same = ap (λ (r : List Token × List ℕ). nonblank r.0) cut ∙ p.same }

@@ -47,9 +47,9 @@ pub record Preserved (S : Settings) (source outline output : List ℕ) : Type 0 
 
 abbrev pub Number3 : Type 0
 Number3 =
-    (S : Settings) (source outline : List ℕ) (tableRoom outputRoom : ℕ)
-    → (answer S source outline tableRoom outputRoom).number ≡ 0
-    → Preserved S source outline (answer S source outline tableRoom outputRoom).output
+    (S : Settings) (source outline : List ℕ) (table_room output_room : ℕ)
+    → (answer S source outline table_room output_room).number ≡ 0
+    → Preserved S source outline (answer S source outline table_room output_room).output
 
 -- the same in the mission's words alone: of bytes and tokens, no layout in sight
 pub record Kept (source output : List ℕ) : Type 0 where
@@ -59,9 +59,9 @@ pub record Kept (source output : List ℕ) : Type 0 where
 
 abbrev pub Number3' : Type 0
 Number3' =
-    (S : Settings) (source outline : List ℕ) (tableRoom outputRoom : ℕ)
-    → (answer S source outline tableRoom outputRoom).number ≡ 0
-    → Kept source (answer S source outline tableRoom outputRoom).output
+    (S : Settings) (source outline : List ℕ) (table_room output_room : ℕ)
+    → (answer S source outline table_room output_room).number ≡ 0
+    → Kept source (answer S source outline table_room output_room).output
 
 -- "So two sources, both with a mark or both without, laid out to the same bytes have the same such tokens." With any settings, outlines and rooms of each
 abbrev pub SameTokens : Type 0

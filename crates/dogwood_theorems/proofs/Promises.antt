@@ -29,13 +29,13 @@ pub call_promised : AllPromised
 call_promised c =
     let source = c.source in
     let outline = c.outline in
-    let tableRoom = count c.table in
-    let outputRoom = count c.output in
+    let table_room = count c.table in
+    let output_room = count c.output in
     let same = c.kept.numbered in
-    let refusing = answer_refusing house source outline tableRoom outputRoom in
+    let refusing = answer_refusing house source outline table_room output_room in
     record {
-      preserved = λ e. subst (Preserved house source outline) (sym (wrote_due c)) (number3 house source outline tableRoom outputRoom (zero_due c e));
-      said = λ e. subst (Kept source) (sym (wrote_due c)) (number3' house source outline tableRoom outputRoom (zero_due c e));
+      preserved = λ e. subst (Preserved house source outline) (sym (wrote_due c)) (number3 house source outline table_room output_room (zero_due c e));
+      said = λ e. subst (Kept source) (sym (wrote_due c)) (number3' house source outline table_room output_room (zero_due c e));
       back = λ l h. wrote_due c ∙ refusing.back (omega arith) (omega arith);
       untouched =
           λ h.

@@ -1,8 +1,9 @@
-use mathlib.Core.Path.{refl}
+use mathlib.Core.Path.{◌≡◌, refl}
 use native.Mathlib.Omega.{arith}
 use Rattle.dogwood_formatter.proofs.Offering.{mark-fits}
 use Rattle.dogwood_formatter.proofs.Fine.{fine_ready, fine_offered}
 use Rattle.dogwood_formatter.proofs.Answering.{given_room, given_none, judged_as}
+use Rattle.dogwood_outline.specs.declared.judging.Verdict.TheVariants.{Fine}
 use Rattle.dogwood_formatter.proofs.format.format_tokens.Goals as goal
 
 pub slice_bounds-judge-count : goal.slice_bounds-judge-count
@@ -17,8 +18,9 @@ slice_bounds-judge-start c =
 
 pub offer_file-size-requires : goal.offer_file-size-requires
 offer_file-size-requires c =
+    let fine : c.judge.result ≡ Fine = cc in
     fine_ready c.args.source.now c.args.outline.now c.args.table.now c.requires
-    (judged_as c.args.source.now c.args.outline.now _ c.requires.1 c.split_bom-mark.ensures c.in-Fine.is c.judge.ensures)
+    (judged_as c.args.source.now c.args.outline.now _ c.requires.1 c.split_bom-mark.ensures fine c.judge.ensures)
 
 pub returns-then-size-output : goal.returns-then-size-output
 returns-then-size-output c =
