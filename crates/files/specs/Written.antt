@@ -1,5 +1,6 @@
--- Numbers as they are written in a line.
-use Rattle.std.specs.Prelude.{ℕ, List, [], ◌∷◌, ◌++◌, codes, decimal}
+-- Numbers as they are written in a line, and what a write that fails leaves.
+use Rattle.std.specs.Prelude.{ℕ, Option, List, [], ◌∷◌, ◌++◌, take, codes, decimal}
+use Rattle.std.specs.Io.KnownBytes.{Appends}
 
 -- two numbers, as each answer begins
 abbrev pub pair_of : ℕ → ℕ → List ℕ
@@ -18,3 +19,7 @@ answer_of number value table = pair_of number value ++ spaced table ++ codes "\n
 abbrev pub line_of : List ℕ → List ℕ
 line_of [] = codes "\n"
 line_of (w ∷ ws) = decimal w ++ spaced ws ++ codes "\n"
+
+-- known bytes stay at the front, and after them stands a beginning of bs
+abbrev pub AppendsPart : Option (List ℕ) → Option (List ℕ) → List ℕ → Type 0
+AppendsPart old new bs = (k : ℕ) × Appends old new (take k bs)
