@@ -2,10 +2,12 @@
 #![tactic(auto)]
 
 mod cursor;
+mod kind;
 mod parts;
 mod writing;
 
 pub use cursor::{Step, back, count, end, next};
+pub use kind::Kind;
 pub use parts::{between, first_rows, inside};
 pub use writing::put_row;
 
