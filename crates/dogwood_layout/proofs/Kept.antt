@@ -1,5 +1,5 @@
 -- A text without the white space at its right: the loop that finds where it ends, and its bytes.
-use Rattle.std.specs.Prelude.{if◌then◌else◌}
+use Rattle.std.specs.Prelude.{if◌then◌else◌, None, Some}
 use mathlib.Core.Path.{◌≡◌, refl, sym, ◌∙◌, ap}
 use mathlib.Core.Bool.{Bool, true, false, not}
 use mathlib.Core.List.{List, [], ◌∷◌, ◌++◌, append-nil, append_assoc}
@@ -18,9 +18,9 @@ use Rattle.dogwood_rules.proofs.Decoding.{character_sound, decode_sound}
 use Rattle.dogwood_rules.proofs.Wholes.{encode-length, length_more}
 use Rattle.utf8.specs.Told.{told}
 use Rattle.utf8.specs.Utf8.{decode_at}
-use Rattle.utf8.specs.declared.Decoded.TheVariants.{Char, Fault}
 use Rattle.utf8.proofs.Inside.{inside}
 use Rattle.dogwood_layout.proofs.Bytes.{encode-append}
+use Rattle.utf8.specs.Char.{char_of, char_same}
 
 -- Cutting at the right -------------------------------------------------------------------------------------------------
 
@@ -79,15 +79,15 @@ not_false false e = sym e
 
 -- One character on ---------------------------------------------------------------------------------------------------------
 
-told_char : (o : Option (ℕ × ℕ)) {c n : ℕ} → told o ≡ Char c n → (o ≡ some (c, n - 1)) × (0 < n)
+told_char : (o : Option (ℕ × ℕ)) {c n : ℕ} → told o ≡ char_of c n → (o ≡ some (c, n - 1)) × (0 < n)
 told_char none e = absurd (let z : ◌≡◌ {A = ℕ} 0 1 = cc in omega arith)
 told_char (some p) {c} {n} e =
-    let a : p.0 ≡ c = cc in
-    let b : suc p.1 ≡ n = cc in
+    let a = (char_same e).0 in
+    let b = (char_same e).1 in
     let d : p.1 ≡ n - 1 = omega arith in
     (λ j. some (a j, d j), omega arith)
 
-told_fault : (o : Option (ℕ × ℕ)) → told o ≡ Fault → o ≡ none
+told_fault : (o : Option (ℕ × ℕ)) → told o ≡ None → o ≡ none
 told_fault none e = refl
 told_fault (some p) e = absurd (let z : ◌≡◌ {A = ℕ} 0 1 = cc in omega arith)
 
@@ -102,7 +102,7 @@ encode_one : (c : ℕ) → length (encode (c ∷ [])) ≡ length (bytes_of c)
 unfolding encode
 encode_one c = ap length (append-nil (bytes_of c))
 
-next_char : (bytes : List ℕ) (i : ℕ) {c n : ℕ} → i < length bytes → decode_at bytes i ≡ Char c n → Next bytes i c n
+next_char : (bytes : List ℕ) (i : ℕ) {c n : ℕ} → i < length bytes → decode_at bytes i ≡ char_of c n → Next bytes i c n
 unfolding decode_at byte_length
 next_char bytes i {c} {n} h e =
     let k = inside bytes i e in
@@ -133,7 +133,7 @@ unfolding byte_length
 kept_start bytes e = record { done = []; whole = refl; valid = e; place = refl; kept = refl }
 
 module _ (bytes : List ℕ) {keep i : ℕ} (a : KeptAt bytes keep i) where
-  module _ (h : i < length bytes) {c n : ℕ} (e : decode_at bytes i ≡ Char c n) where
+  module _ (h : i < length bytes) {c n : ℕ} (e : decode_at bytes i ≡ char_of c n) where
     step : (kept : ℕ) → kept ≡ byte_length (drop_back white (a.done ++ c ∷ [])) → KeptAt bytes kept (i + n)
     step kept k =
         let x = next_char bytes i h e in
@@ -163,7 +163,7 @@ module _ (bytes : List ℕ) {keep i : ℕ} (a : KeptAt bytes keep i) where
         let q : i + n ≡ byte_length (a.done ++ c ∷ []) = omega arith in
         step (i + n) (q ∙ ap byte_length (sym (keep_last a.done c (sym t ∙ not_true r f))))
 
-  pub kept_fault : i < length bytes → decode_at bytes i ≡ Fault → ⊥
+  pub kept_fault : i < length bytes → decode_at bytes i ≡ None → ⊥
   unfolding decode_at decode
   kept_fault h e =
       let first = drop-cons bytes i 0 h in

@@ -10,7 +10,7 @@ use dogwood_layout::{Entry, Written};
 use dogwood_letters::is_space;
 use dogwood_runs::entry_at;
 use pen::{add, clip, put_all, put_copies};
-use utf8::{Decoded, decode};
+use utf8::{Char, decode};
 
 // How many bytes of a text are left without the white space at its right.
 fn kept(bytes: &[u8]) -> usize
@@ -27,7 +27,7 @@ fn kept(bytes: &[u8]) -> usize
                 keep = i;
             }
         } else {
-            let Decoded::Char { code, len } = decode(bytes, i) else {
+            let Some(Char { code, len }) = decode(bytes, i) else {
                 return keep;
             };
             i += len;

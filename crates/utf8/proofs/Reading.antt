@@ -1,11 +1,11 @@
 -- Reads s i cs: from the place i on, up to its end or the first bad place, s has the characters cs. What is proved of places is proved by
 -- induction on it.
-use Rattle.std.specs.Prelude.{if◌then◌else◌}
+use Rattle.std.specs.Prelude.{if◌then◌else◌, None, Option, Some}
 use Prim.Native.Nat.{ℕ, suc, ◌+◌, ◌/◌, ◌<◌, ◌≤◌}
 use mathlib.Core.Path.{◌≡◌, refl, sym, ap, ◌∙◌, subst}
 use mathlib.Core.Bool.{Bool, true, false, cond}
 use mathlib.Core.List.{List, [], ◌∷◌, ◌++◌}
-use mathlib.Core.Option.{Option, none, some}
+use mathlib.Core.Option.{Option as Maybe, none, some}
 use native.Mathlib.Omega.{arith}
 use borrow.Author.Tests.{ltb-true, ltb-false, lt-ltb}
 use lib.ListN.{length, get_or, drop, length-drop, length-append, drop_of_length-le, get_or-eq_default}
@@ -18,20 +18,18 @@ use Rattle.utf8.specs.Utf8.{decode_at}
 use Rattle.utf8.specs.Walk.{stop, go}
 use Rattle.utf8.specs.Valid.{past, bad_step, bad_from}
 use Rattle.utf8.specs.Told.{told}
-use Rattle.utf8.specs.declared.Decoded.{Decoded}
-use Rattle.utf8.specs.declared.Decoded.TheVariants.{Char, Fault}
-use Rattle.utf8.specs.declared.Found.{Found}
-use Rattle.utf8.specs.declared.Found.TheVariants.{Nothing}
 use Rattle.utf8.proofs.Walk.{from_ind, stop≢go}
 use Rattle.utf8.proofs.Inside.{inside, plain}
 use Rattle.utf8.proofs.InsideBytes.{never}
 use Rattle.utf8.proofs.Valid.{bad_onward}
 use Rattle.utf8.proofs.Character.{decode_at_lem}
 use Rattle.utf8.proofs.Whole.{decode_char, decode_fault, decode_end, no_character}
+use Rattle.utf8.specs.declared.Char.{Char}
+use Rattle.utf8.specs.Char.{char_of, char_same}
 
 pub data Reads (s : List ℕ) : ℕ → List ℕ → Type 0 where
-  reads_end : {i : ℕ} → decode_at s i ≡ Fault → Reads s i []
-  reads_more : {i c : ℕ} {cs : List ℕ} → decode_at s i ≡ Char c (size c) → Reads s (i + size c) cs → Reads s i (c ∷ cs)
+  reads_end : {i : ℕ} → decode_at s i ≡ None → Reads s i []
+  reads_more : {i c : ℕ} {cs : List ℕ} → decode_at s i ≡ char_of c (size c) → Reads s (i + size c) cs → Reads s i (c ∷ cs)
 
 length-bytes : (c : ℕ) → length (bytes_of c) ≡ size c
 unfolding bytes_of size
@@ -46,19 +44,19 @@ length-bytes c = by (ltb c 0x80) (ltb c 0x800) (ltb c 0x10000)
     by false false false = refl
 
 -- the bytes of a character that stands at a place
-pub sound_at : (s : List ℕ) (i : ℕ) {c n : ℕ} → decode_at s i ≡ Char c n → drop i s ≡ bytes_of c ++ drop n (drop i s)
+pub sound_at : (s : List ℕ) (i : ℕ) {c n : ℕ} → decode_at s i ≡ char_of c n → drop i s ≡ bytes_of c ++ drop n (drop i s)
 sound_at s i {c} {n} e = by (drop i s) (character (drop i s)) refl (sym (decode_at_lem s i) ∙ e)
   where
-    by : (l : List ℕ) (o : Option (ℕ × ℕ)) → character l ≡ o → told o ≡ Char c n → l ≡ bytes_of c ++ drop n l
+    by : (l : List ℕ) (o : Maybe (ℕ × ℕ)) → character l ≡ o → told o ≡ char_of c n → l ≡ bytes_of c ++ drop n l
     by l none h q = absurd (never q)
     by [] (some p) h q = absurd (no_character h)
     by (x ∷ xs) (some p) h q =
-        let y : p.0 ≡ c = cc in
-        let z : suc p.1 ≡ n = cc in
+        let y = (char_same q).0 in
+        let z = (char_same q).1 in
         (character_sound x xs p.0 p.1 h).bytes ∙ (λ i. bytes_of (y i) ++ drop (z i) (x ∷ xs))
 
 -- it has as many bytes as its code point takes
-pub size_at : (s : List ℕ) (i : ℕ) {c n : ℕ} → decode_at s i ≡ Char c n → n ≡ size c
+pub size_at : (s : List ℕ) (i : ℕ) {c n : ℕ} → decode_at s i ≡ char_of c n → n ≡ size c
 size_at s i {c} {n} e =
     let p = inside s i e in
     let l = ap length (sound_at s i e) ∙ length-append (bytes_of c) (drop n (drop i s)) in
@@ -71,7 +69,7 @@ pub size_ascii : (c : ℕ) → c < 128 → size c ≡ 1
 unfolding size
 size_ascii c h = simp (lt-ltb c 128 h)
 
-byte_ascii : (s : List ℕ) (i : ℕ) {c n : ℕ} → decode_at s i ≡ Char c n → c < 128 → get_or s i 0 ≡ c
+byte_ascii : (s : List ℕ) (i : ℕ) {c n : ℕ} → decode_at s i ≡ char_of c n → c < 128 → get_or s i 0 ≡ c
 unfolding bytes_of
 byte_ascii s i {c} {n} e h =
     let p = inside s i e in
@@ -80,7 +78,7 @@ byte_ascii s i {c} {n} e h =
     cc
 
 -- a first byte above ASCII begins a character above ASCII
-pub wide_at : (s : List ℕ) (i : ℕ) {c n : ℕ} → decode_at s i ≡ Char c n → 128 ≤ get_or s i 0 → 128 ≤ c
+pub wide_at : (s : List ℕ) (i : ℕ) {c n : ℕ} → decode_at s i ≡ char_of c n → 128 ≤ get_or s i 0 → 128 ≤ c
 wide_at s i {c} {n} e h = by (ltb c 128) refl
   where
     by : (t : Bool) → ltb c 128 ≡ t → 128 ≤ c
@@ -88,7 +86,7 @@ wide_at s i {c} {n} e h = by (ltb c 128) refl
     by false k = ltb-false c 128 k
 
 -- a test that no byte above ASCII passes may look at the first byte in place of the character
-pub byte_at : (s : List ℕ) (i : ℕ) {c n : ℕ} (f : ℕ → Bool) → ((b : ℕ) → 128 ≤ b → f b ≡ false) → decode_at s i ≡ Char c n → f (get_or s i 0) ≡ f c
+pub byte_at : (s : List ℕ) (i : ℕ) {c n : ℕ} (f : ℕ → Bool) → ((b : ℕ) → 128 ≤ b → f b ≡ false) → decode_at s i ≡ char_of c n → f (get_or s i 0) ≡ f c
 byte_at s i {c} {n} f big e = by (ltb c 128) refl (ltb (get_or s i 0) 128) refl
   where
     by : (t : Bool) → ltb c 128 ≡ t → (u : Bool) → ltb (get_or s i 0) 128 ≡ u → f (get_or s i 0) ≡ f c
@@ -96,11 +94,10 @@ byte_at s i {c} {n} f big e = by (ltb c 128) refl (ltb (get_or s i 0) 128) refl
     by false h true k =
         let p = inside s i e in
         let q = plain s i (get_or s i 0) (omega arith) refl (ltb-true (get_or s i 0) 128 k) in
-        let z : c ≡ get_or s i 0 = cc in
-        ap f (sym z)
+        ap f (char_same (sym q ∙ e)).0
     by false h false k = big (get_or s i 0) (ltb-false (get_or s i 0) 128 k) ∙ sym (big c (ltb-false c 128 h))
 
-pub end_fault : (s : List ℕ) (i : ℕ) → length s ≤ i → decode_at s i ≡ Fault
+pub end_fault : (s : List ℕ) (i : ℕ) → length s ≤ i → decode_at s i ≡ None
 unfolding decode_at character
 end_fault s i h = ap (λ (l : List ℕ). told (character l)) (drop_of_length-le s {i = i} h)
 
@@ -108,27 +105,28 @@ end_fault s i h = ap (λ (l : List ℕ). told (character l)) (drop_of_length-le 
 pub reads_at : (s : List ℕ) (i : ℕ) → Reads s i (decode (drop i s)).0
 unfolding bad_from bad_step
 reads_at s =
-    from_ind (bad_step s) (λ u r. r) Nothing (length s) (bad_onward s) (λ i r. Reads s i (decode (drop i s)).0)
+    from_ind (bad_step s) (λ u r. r) None (length s) (bad_onward s) (λ i r. Reads s i (decode (drop i s)).0)
     (λ i r e. stops i r (ltb i (length s)) refl (decode_at s i) refl e)
     (λ i j a r e p. goes i j a (ltb i (length s)) refl (decode_at s i) refl e p)
   where
-    stops : (i : ℕ) (r : Found) (t : Bool) → ltb i (length s) ≡ t → (d : Decoded) → decode_at s i ≡ d → cond t (past i d) (stop Nothing) ≡ stop r
+    stops : (i : ℕ) (r : Option ℕ) (t : Bool) → ltb i (length s) ≡ t → (d : Option Char) → decode_at s i ≡ d → cond t (past i d) (stop None) ≡ stop r
         → Reads s i (decode (drop i s)).0
-    stops i r true h (Char c n) k e = absurd (stop≢go (sym e))
-    stops i r true h Fault k e = subst (λ (x : List ℕ × List ℕ). Reads s i x.0) (sym (decode_fault s i (ltb-true i (length s) h) k)) (reads_end k)
+    stops i r true h (Some x) k e = absurd (stop≢go (sym e))
+    stops i r true h None k e = subst (λ (x : List ℕ × List ℕ). Reads s i x.0) (sym (decode_fault s i (ltb-true i (length s) h) k)) (reads_end k)
     stops i r false h d k e =
         let u = ltb-false i (length s) h in
         subst (λ (x : List ℕ × List ℕ). Reads s i x.0) (sym (decode_end s i u)) (reads_end (end_fault s i u))
 
-    goes : (i j : ℕ) (a : Unit {0}) (t : Bool) → ltb i (length s) ≡ t → (d : Decoded) → decode_at s i ≡ d → cond t (past i d) (stop Nothing) ≡ go a j
+    goes : (i j : ℕ) (a : Unit {0}) (t : Bool) → ltb i (length s) ≡ t → (d : Option Char) → decode_at s i ≡ d → cond t (past i d) (stop None) ≡ go a j
         → Reads s j (decode (drop j s)).0 → Reads s i (decode (drop i s)).0
-    goes i j a true h (Char c n) k e p =
+    goes i j a true h (Some x) k e p =
+        let c = x.code in let n = x.len in
         let v : j ≡ i + n = cc in
         let z = size_at s i k in
         subst (λ (x : List ℕ × List ℕ). Reads s i x.0) (sym (decode_char s i k))
-        (reads_more (k ∙ ap (λ (m : ℕ). Char c m) z)
+        (reads_more (k ∙ ap (λ (m : ℕ). char_of c m) z)
         (subst (λ (m : ℕ). Reads s (i + m) (decode (drop (i + n) s)).0) z (subst (λ (m : ℕ). Reads s m (decode (drop m s)).0) v p)))
-    goes i j a true h Fault k e p = absurd (stop≢go e)
+    goes i j a true h None k e p = absurd (stop≢go e)
     goes i j a false h d k e p = absurd (stop≢go e)
 
 -- and no others
@@ -137,7 +135,7 @@ reads_only s (reads_end d) (reads_end e) = refl
 reads_only s (reads_end d) (reads_more e r) = absurd (never (sym d ∙ e))
 reads_only s (reads_more d q) (reads_end e) = absurd (never (sym e ∙ d))
 reads_only s {i} (reads_more {c = x} {cs = xs} d q) (reads_more {c = y} {cs = ys} e r) =
-    let z : x ≡ y = cc in
+    let z = (char_same (sym d ∙ e)).0 in
     let h = reads_only s q (subst (λ (a : ℕ). Reads s (i + size a) ys) (sym z) r) in
     (λ j. z j ∷ h j)
 
@@ -154,7 +152,7 @@ length-decode s =
     ∙ ap length (decode_sound s).whole
 
 -- no byte below 128 stands where no character does
-fault_byte : (s : List ℕ) (i : ℕ) (f : ℕ → Bool) → ((b : ℕ) → 128 ≤ b → f b ≡ false) → f 0 ≡ false → decode_at s i ≡ Fault → f (get_or s i 0) ≡ false
+fault_byte : (s : List ℕ) (i : ℕ) (f : ℕ → Bool) → ((b : ℕ) → 128 ≤ b → f b ≡ false) → f 0 ≡ false → decode_at s i ≡ None → f (get_or s i 0) ≡ false
 fault_byte s i f big low e = by (ltb i (length s)) refl (ltb (get_or s i 0) 128) refl
   where
     by : (t : Bool) → ltb i (length s) ≡ t → (u : Bool) → ltb (get_or s i 0) 128 ≡ u → f (get_or s i 0) ≡ false

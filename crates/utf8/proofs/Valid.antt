@@ -10,32 +10,32 @@ use lib.Dec.{ltb}
 use Rattle.utf8.specs.Utf8.{decode_at}
 use Rattle.utf8.specs.Walk.{stop, go}
 use Rattle.utf8.specs.Valid.{past, bad_step, bad_from}
-use Rattle.utf8.specs.declared.Decoded.{Decoded}
-use Rattle.utf8.specs.declared.Decoded.TheVariants.{Char, Fault}
-use Rattle.utf8.specs.declared.Found.TheVariants.{At, Nothing}
 use Rattle.utf8.proofs.Walk.{Onward, from_go, from_stop, stop≢go}
 use Rattle.utf8.proofs.Inside.{inside, plain}
+use Rattle.std.specs.Prelude.{None, Option, Some}
+use Rattle.utf8.specs.declared.Char.{Char}
+use Rattle.utf8.specs.Char.{char_of}
 
 pub bad_onward : (s : List ℕ) → Onward (bad_step s) (length s)
 unfolding bad_step
 bad_onward s i a j e = by (ltb i (length s)) (decode_at s i) refl e
   where
-    by : (t : Bool) (d : Decoded) → decode_at s i ≡ d → cond t (past i d) (stop Nothing) ≡ go a j → (i < j) × (j ≤ length s)
-    by true (Char c n) h e = let q : i + n ≡ j = cc in let p = inside s i h in omega arith
-    by true Fault h e = absurd (stop≢go e)
+    by : (t : Bool) (d : Option Char) → decode_at s i ≡ d → cond t (past i d) (stop None) ≡ go a j → (i < j) × (j ≤ length s)
+    by true (Some x) h e = let c = x.code in let n = x.len in let q : i + n ≡ j = cc in let p = inside s i h in omega arith
+    by true None h e = absurd (stop≢go e)
     by false d h e = absurd (stop≢go e)
 
-pub bad_char : (s : List ℕ) (i : ℕ) {c n : ℕ} → i < length s → decode_at s i ≡ Char c n → bad_from s i ≡ bad_from s (i + n)
+pub bad_char : (s : List ℕ) (i : ℕ) {c n : ℕ} → i < length s → decode_at s i ≡ char_of c n → bad_from s i ≡ bad_from s (i + n)
 unfolding bad_from bad_step
-bad_char s i {c} {n} l e = from_go (bad_step s) (λ u r. r) Nothing (length s) (bad_onward s) i (i + n) (simp (lt-ltb _ _ l, e))
+bad_char s i {c} {n} l e = from_go (bad_step s) (λ u r. r) None (length s) (bad_onward s) i (i + n) (simp (lt-ltb _ _ l, e))
 
-pub bad_fault : (s : List ℕ) (i : ℕ) → i < length s → decode_at s i ≡ Fault → bad_from s i ≡ At i
+pub bad_fault : (s : List ℕ) (i : ℕ) → i < length s → decode_at s i ≡ None → bad_from s i ≡ Some i
 unfolding bad_from bad_step
-bad_fault s i l e = from_stop (bad_step s) (λ u r. r) Nothing (length s) i (simp (lt-ltb _ _ l, e))
+bad_fault s i l e = from_stop (bad_step s) (λ u r. r) None (length s) i (simp (lt-ltb _ _ l, e))
 
-pub bad_end : (s : List ℕ) (i : ℕ) → length s ≤ i → bad_from s i ≡ Nothing
+pub bad_end : (s : List ℕ) (i : ℕ) → length s ≤ i → bad_from s i ≡ None
 unfolding bad_from bad_step
-bad_end s i l = from_stop (bad_step s) (λ u r. r) Nothing (length s) i (simp (le-ltb _ _ l))
+bad_end s i l = from_stop (bad_step s) (λ u r. r) None (length s) i (simp (le-ltb _ _ l))
 
 -- a byte below 128 is a character
 pub bad_ascii : (s : List ℕ) (i : ℕ) → i < length s → get_or s i 0 < 128 → bad_from s i ≡ bad_from s (i + 1)

@@ -8,11 +8,11 @@ ghost use Rattle.utf8.specs.Told.{left_at};
 ghost use Rattle.utf8.specs.Valid.{bad_from};
 ghost use Rattle.utf8.specs.Utf8.{length_of, within, low_of, high_of, two_of, three_of, four_of, decode_at};
 
-// What stands at a place: a character with its length in bytes, or no character.
+// A character: its code point, and its length in bytes.
 #[derive(Clone, Copy)]
-pub enum Decoded {
-    Char { code: u32, len: usize },
-    Fault,
+pub struct Char {
+    pub code: u32,
+    pub len: usize,
 }
 
 // Whether lo <= x <= hi.
@@ -72,65 +72,65 @@ pub fn byte(s: &[u8], i: usize) -> u8
     if i < s.len() { s[i] } else { 0 }
 }
 
-fn two(a: u8, b: u8) -> Decoded
+fn two(a: u8, b: u8) -> Option<Char>
     ensures { result ≡ two_of a b }
 {
     if is_within(0x80, b, 0xBF) {
-        return Decoded::Char {
+        return Some(Char {
             code: (a % 32) as u32 * 64 + (b % 64) as u32,
             len: 2,
-        };
+        });
     }
-    Decoded::Fault
+    None
 }
 
-fn three(a: u8, b: u8, c: u8) -> Decoded
+fn three(a: u8, b: u8, c: u8) -> Option<Char>
     ensures { result ≡ three_of a b c }
 {
     if is_within(low(a), b, high(a)) {
         if is_within(0x80, c, 0xBF) {
-            return Decoded::Char {
+            return Some(Char {
                 code: (a % 16) as u32 * 4096 + (b % 64) as u32 * 64 + (c % 64) as u32,
                 len: 3,
-            };
+            });
         }
     }
-    Decoded::Fault
+    None
 }
 
-fn four(a: u8, b: u8, c: u8, d: u8) -> Decoded
+fn four(a: u8, b: u8, c: u8, d: u8) -> Option<Char>
     ensures { result ≡ four_of a b c d }
 {
     if is_within(low(a), b, high(a)) {
         if is_within(0x80, c, 0xBF) {
             if is_within(0x80, d, 0xBF) {
-                return Decoded::Char {
+                return Some(Char {
                     code: (a % 8) as u32 * 262144
                         + (b % 64) as u32 * 4096
                         + (c % 64) as u32 * 64
                         + (d % 64) as u32,
                     len: 4,
-                };
+                });
             }
         }
     }
-    Decoded::Fault
+    None
 }
 
 // The character at a place, with its length, or that none stands there.
-pub fn decode(s: &[u8], at: usize) -> Decoded
+pub fn decode(s: &[u8], at: usize) -> Option<Char>
     ensures { result ≡ decode_at s.now at }
 {
     if s.len() <= at {
-        return Decoded::Fault;
+        return None;
     }
     let a = byte(s, at);
     let n = sequence(a);
     if n == 1 {
-        return Decoded::Char {
+        return Some(Char {
             code: a as u32,
             len: 1,
-        };
+        });
     }
     if n == 2 {
         return two(a, byte(s, at + 1));
@@ -141,14 +141,7 @@ pub fn decode(s: &[u8], at: usize) -> Decoded
     if n == 4 {
         return four(a, byte(s, at + 1), byte(s, at + 2), byte(s, at + 3));
     }
-    Decoded::Fault
-}
-
-// A place of a text, or none.
-#[derive(Clone, Copy)]
-pub enum Found {
-    At(usize),
-    Nothing,
+    None
 }
 
 // Whether the 16 bytes from a place on are below 128.
@@ -181,7 +174,7 @@ fn ascii_end(s: &[u8], at: usize) -> usize
 }
 
 // The first place at which no character stands.
-pub fn first_bad(s: &[u8]) -> Found
+pub fn first_bad(s: &[u8]) -> Option<usize>
     ensures { result ≡ left_at (length s.now) (decode s.now).1 }
 {
     let mut i = ascii_end(s, 0);
@@ -189,13 +182,13 @@ pub fn first_bad(s: &[u8]) -> Found
         if s[i] < 0x80 {
             i += 1;
         } else {
-            let Decoded::Char { code: _, len } = decode(s, i) else {
-                return Found::At(i);
+            let Some(Char { code: _, len }) = decode(s, i) else {
+                return Some(i);
             };
             i = ascii_end(s, i + len);
         }
     }
-    Found::Nothing
+    None
 }
 
 // How long the byte-order mark is that a source begins with: the text is what follows it.

@@ -24,29 +24,29 @@ returns-in_default c = absurd (kept_fault _ c.loop-i.invariant c.loop-i-test.tru
 -- src/remark.rt:39:13
 pub overflow_add-i-else-b-lt128 : goal.overflow_add-i-else-b-lt128
 overflow_add-i-else-b-lt128 c =
-    let k = inside c.args.bytes.now c.loop-i.i (sym c.decode.ensures ∙ c.in-Char.is) in
+    let k = inside c.args.bytes.now c.loop-i.i (sym c.decode.ensures ∙ c.in-Some.is) in
     let g = c.well_formed in
     omega arith
 
 -- src/remark.rt:28:5
 pub loop-i-smaller-then-not-is_space-2 : goal.loop-i-smaller-then-not-is_space-2
 loop-i-smaller-then-not-is_space-2 c =
-    let k = inside c.args.bytes.now c.loop-i.i (sym c.decode.ensures ∙ c.in-Char.is) in
+    let k = inside c.args.bytes.now c.loop-i.i (sym c.decode.ensures ∙ c.in-Some.is) in
     omega arith
 
 -- src/remark.rt:28:5
 pub loop-i-preserved-then-not-is_space-2 : goal.loop-i-preserved-then-not-is_space-2
-loop-i-preserved-then-not-is_space-2 c = kept_word _ c.loop-i.invariant c.loop-i-test.true (sym c.decode.ensures ∙ c.in-Char.is) c.is_space-else-b-lt128.ensures (ap not c.if-not-is_space-2.true)
+loop-i-preserved-then-not-is_space-2 c = kept_word _ c.loop-i.invariant c.loop-i-test.true (sym c.decode.ensures ∙ c.in-Some.is) c.is_space-else-b-lt128.ensures (ap not c.if-not-is_space-2.true)
 
 -- src/remark.rt:28:5
 pub loop-i-smaller : goal.loop-i-smaller
 loop-i-smaller c =
-    let k = inside c.args.bytes.now c.loop-i.i (sym c.decode.ensures ∙ c.in-Char.is) in
+    let k = inside c.args.bytes.now c.loop-i.i (sym c.decode.ensures ∙ c.in-Some.is) in
     omega arith
 
 -- src/remark.rt:28:5
 pub loop-i-preserved : goal.loop-i-preserved
-loop-i-preserved c = kept_white _ c.loop-i.invariant c.loop-i-test.true (sym c.decode.ensures ∙ c.in-Char.is) c.is_space-else-b-lt128.ensures (ap not c.if-not-is_space-2.false)
+loop-i-preserved c = kept_white _ c.loop-i.invariant c.loop-i-test.true (sym c.decode.ensures ∙ c.in-Some.is) c.is_space-else-b-lt128.ensures (ap not c.if-not-is_space-2.false)
 
 -- src/remark.rt:22:1
 pub returns : goal.returns
