@@ -1,5 +1,5 @@
 -- What the functions of this crate promise. Each promise is one equation, and no second answer keeps it.
-use Rattle.std.specs.Prelude.{◌≡◌, Bool, not, ℕ}
+use Rattle.std.specs.Prelude.{◌≡◌, Bool, not, ℕ, Option}
 use Rattle.std.proofs.Common.{sym, ◌∙◌}
 use Rattle.dogwood_rules.specs.Token.{line_end}
 use Rattle.dogwood_letters.specs.Symbol.{symbol_len}
@@ -15,9 +15,9 @@ class_only class c r r' p q = p ∙ sym q
 abbrev pub in_line : ℕ → Bool
 in_line c = not (line_end c)
 
--- r is the length of the symbol that the character a and the byte b begin with, or 0
-abbrev pub SymbolIs : ℕ → ℕ → ℕ → Type 0
+-- r is the length of the symbol that the character a and the byte b begin with
+abbrev pub SymbolIs : ℕ → ℕ → Option ℕ → Type 0
 SymbolIs a b r = r ≡ symbol_len a b
 
-pub symbol_only : (a b r r' : ℕ) → SymbolIs a b r → SymbolIs a b r' → r ≡ r'
+pub symbol_only : (a b : ℕ) (r r' : Option ℕ) → SymbolIs a b r → SymbolIs a b r' → r ≡ r'
 symbol_only a b r r' p q = p ∙ sym q

@@ -6,59 +6,61 @@ ghost use Rattle.dogwood_letters.specs.Promises.{ClassIs, in_line};
 
 use crate::symbols::is_single;
 
-// Whether lo <= x <= hi.
-pub(crate) fn is_in(lo: u32, x: u32, hi: u32) -> bool
-    ensures { result ≡ within lo x hi }
-{
-    (lo <= x) & (x <= hi)
-}
-
 // White space, the Unicode property White_Space.
+#[tactic(auto, using(std::proofs::lemmas::Bool::Decides::nat_tests), unfolding(dogwood_rules::specs::Token::white))]
 pub fn is_space(c: u32) -> bool
     ensures { ClassIs white c result }
 {
-    is_in(0x09, c, 0x0D)
-        | (c == 0x20)
-        | (c == 0x85)
-        | (c == 0xA0)
-        | (c == 0x1680)
-        | is_in(0x2000, c, 0x200A)
-        | (c == 0x2028)
-        | (c == 0x2029)
-        | (c == 0x202F)
-        | (c == 0x205F)
-        | (c == 0x3000)
+    matches!(
+        c,
+        0x09..=0x0D
+            | 0x20
+            | 0x85
+            | 0xA0
+            | 0x1680
+            | 0x2000..=0x200A
+            | 0x2028
+            | 0x2029
+            | 0x202F
+            | 0x205F
+            | 0x3000
+    )
 }
 
 // An ASCII letter or _.
+#[tactic(auto, using(std::proofs::lemmas::Bool::Decides::nat_tests), unfolding(dogwood_rules::specs::Token::letter))]
 pub fn is_letter(c: u32) -> bool
     ensures { ClassIs letter c result }
 {
-    is_in(0x41, c, 0x5A) | is_in(0x61, c, 0x7A) | (c == 0x5F)
+    matches!(c, 0x41..=0x5A | 0x61..=0x7A | 0x5F)
 }
 
+#[tactic(auto, using(std::proofs::lemmas::Bool::Decides::nat_tests), unfolding(dogwood_rules::specs::Token::digit))]
 pub fn is_digit(c: u32) -> bool
     ensures { ClassIs digit c result }
 {
-    is_in(0x30, c, 0x39)
+    matches!(c, 0x30..=0x39)
 }
 
+#[tactic(auto, using(std::proofs::lemmas::Bool::Decides::nat_tests), unfolding(dogwood_rules::specs::Token::wordly))]
 pub fn is_word(c: u32) -> bool
     ensures { ClassIs wordly c result }
 {
-    is_letter(c) | is_digit(c)
+    is_letter(c) || is_digit(c)
 }
 
 // What a comment may go on with: only LF and CR end it.
+#[tactic(auto, using(std::proofs::lemmas::Bool::Decides::nat_tests), unfolding(dogwood_rules::specs::Token::line_end))]
 pub fn is_line(c: u32) -> bool
     ensures { ClassIs in_line c result }
 {
-    !((c == 0x0A) | (c == 0x0D))
+    !matches!(c, 0x0A | 0x0D)
 }
 
 // What an Other may go on with: `&` and `|` do not end it.
+#[tactic(auto, using(std::proofs::lemmas::Bool::Decides::nat_tests), unfolding(dogwood_rules::specs::Token::other))]
 pub fn is_other(c: u32) -> bool
     ensures { ClassIs other c result }
 {
-    !(is_space(c) | (c == 0x22) | is_word(c) | is_single(c))
+    !(is_space(c) || c == 0x22 || is_word(c) || is_single(c))
 }

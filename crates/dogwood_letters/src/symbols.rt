@@ -3,39 +3,36 @@ ghost use Rattle.std.specs.Prelude.{◌≡◌};
 ghost use Rattle.dogwood_rules.specs.Token.{single, double};
 ghost use Rattle.dogwood_letters.specs.Promises.{SymbolIs};
 
-use crate::classes::is_in;
-
 // One of the symbols of one character.
+#[tactic(auto, using(std::proofs::lemmas::Bool::Decides::nat_tests), unfolding(dogwood_rules::specs::Token::single))]
 pub(crate) fn is_single(c: u32) -> bool
     ensures { result ≡ single c }
 {
-    is_in(0x28, c, 0x2F)
-        | is_in(0x3A, c, 0x40)
-        | (c == 0x21)
-        | (c == 0x25)
-        | (c == 0x5B)
-        | (c == 0x5D)
-        | (c == 0x7B)
-        | (c == 0x7D)
+    matches!(c, 0x21 | 0x25 | 0x28..=0x2F | 0x3A..=0x40 | 0x5B | 0x5D | 0x7B | 0x7D)
 }
 
 // One of the symbols of two characters.
+#[tactic(auto, using(std::proofs::lemmas::Bool::Decides::nat_tests), unfolding(dogwood_rules::specs::Token::double))]
 pub(crate) fn is_double(a: u32, b: u8) -> bool
     ensures { result ≡ double a b }
 {
-    ((b == 0x3D) & ((a == 0x3D) | (a == 0x21) | (a == 0x3C) | (a == 0x3E)))
-        | ((a == b as u32) & ((a == 0x3A) | (a == 0x26) | (a == 0x7C)))
+    match b {
+        b'=' => matches!(a, 0x21 | 0x3C | 0x3D | 0x3E),
+        b':' | b'&' | b'|' => a == u32::from(b),
+        _ => false,
+    }
 }
 
-// The length of the symbol that a character and the byte after it begin with, or 0.
-pub fn symbol_len(a: u32, b: u8) -> usize
+// The length of the symbol that a character and the byte after it begin with.
+#[tactic(auto, using(std::proofs::lemmas::Bool::Decides::nat_tests), unfolding(crate::specs::Symbol::symbol_len))]
+pub fn symbol_len(a: u32, b: u8) -> Option<usize>
     ensures { SymbolIs a b result }
 {
     if is_double(a, b) {
-        return 2;
+        Some(2)
+    } else if is_single(a) {
+        Some(1)
+    } else {
+        None
     }
-    if is_single(a) {
-        return 1;
-    }
-    0
 }

@@ -15,7 +15,6 @@ use Rattle.dogwood_rules.specs.Readings.{nth, reading_of, reading, ended, no_end
 use Rattle.dogwood_rules.specs.Readings as R
 use Rattle.dogwood_rules.proofs.Sources.{source_long, source_bad, source_open, source_cut}
 use Rattle.utf8.specs.Told.{left_at}
-use Rattle.utf8.specs.declared.Found.TheVariants.{At, Nothing}
 use Rattle.utf8.proofs.Mark.{text_of_lem}
 use Rattle.dogwood_tokens.specs.declared.cursor.Step.{Step}
 use Rattle.dogwood_tokens.specs.declared.cursor.Step.TheVariants as S
@@ -25,6 +24,7 @@ use Rattle.dogwood_tokens.proofs.Steps.{next_onward, next_bounds}
 use Rattle.dogwood_tokens.proofs.Walks.{walks}
 use Rattle.dogwood_reader.specs.declared.State.{State}
 use Rattle.dogwood_reader.specs.Standing.{state_of, standing, step_state, place_of, moved, held}
+use Rattle.std.specs.Prelude.{None, Some}
 
 -- what the code finds behind the mark
 pub place_is : (s : List ℕ) (m at : ℕ) {x : Step} → m ≡ length (mark_of s) → next_of (take (length s - m) (drop m s)) at ≡ x → step_state x ≡ place_of s at
@@ -46,7 +46,7 @@ unfolding reading_of
 bad_reads s n h b l e = from_source s n (source_bad s h b l e)
 
 -- the place, as the code has it
-bad_place : (s : List ℕ) (h : length s ≤ 1048576) (i b : ℕ) (l : List ℕ) → (decode (text_of s)).1 ≡ b ∷ l → left_at (length (text_of s)) (decode (text_of s)).1 ≡ At i
+bad_place : (s : List ℕ) (h : length s ≤ 1048576) (i b : ℕ) (l : List ℕ) → (decode (text_of s)).1 ≡ b ∷ l → left_at (length (text_of s)) (decode (text_of s)).1 ≡ Some i
     → length (mark_of s) + i ≡ length s - length (b ∷ l)
 unfolding tokenised told stopped
 bad_place s h i b l e q =
@@ -56,14 +56,14 @@ pub long_start : (s : List ℕ) → 1048576 < length s → standing s 0 ≡ reco
 unfolding standing
 long_start s h = ap state_of (long_reads s 0 h)
 
-pub bad_start : (s : List ℕ) → length s ≤ 1048576 → (i : ℕ) → left_at (length (text_of s)) (decode (text_of s)).1 ≡ At i
+pub bad_start : (s : List ℕ) → length s ≤ 1048576 → (i : ℕ) → left_at (length (text_of s)) (decode (text_of s)).1 ≡ Some i
     → standing s 0 ≡ record { number = 12; kind = 0; start = length (mark_of s) + i; end = length (mark_of s) + i }
 unfolding standing
 bad_start s h i q = by (decode (text_of s)).1 refl
   where
     by : (l : List ℕ) → (decode (text_of s)).1 ≡ l → state_of (reading s 0) ≡ record { number = 12; kind = 0; start = length (mark_of s) + i; end = length (mark_of s) + i }
     by [] e =
-        let y : left_at (length (text_of s)) [] ≡ At i = ap (left_at (length (text_of s))) (sym e) ∙ q in
+        let y : left_at (length (text_of s)) [] ≡ Some i = ap (left_at (length (text_of s))) (sym e) ∙ q in
         absurd (let z : ◌≡◌ {A = ℕ} 0 1 = cc in omega arith)
     by (b ∷ l) e = ap state_of (bad_reads s 0 h b l e ∙ ap (refused 12) (sym (bad_place s h i b l e q)))
 
@@ -133,14 +133,14 @@ module _ (s : List ℕ) where
 
 -- ---- any source
 
-pub good_start : (s : List ℕ) → length s ≤ 1048576 → left_at (length (text_of s)) (decode (text_of s)).1 ≡ Nothing → place_of s 0 ≡ standing s 0
+pub good_start : (s : List ℕ) → length s ≤ 1048576 → left_at (length (text_of s)) (decode (text_of s)).1 ≡ None → place_of s 0 ≡ standing s 0
 unfolding standing place_of
 good_start s h q = by (decode (text_of s)).1 refl
   where
     by : (l : List ℕ) → (decode (text_of s)).1 ≡ l → step_state (next_of (text_of s) 0) ≡ state_of (reading s 0)
     by [] e = let w = walked s h e in walk_start s w.walk ∙ ap state_of (sym (w.reads 0))
     by (b ∷ l) e =
-        let y : left_at (length (text_of s)) (b ∷ l) ≡ Nothing = ap (left_at (length (text_of s))) (sym e) ∙ q in
+        let y : left_at (length (text_of s)) (b ∷ l) ≡ None = ap (left_at (length (text_of s))) (sym e) ∙ q in
         absurd (let z : ◌≡◌ {A = ℕ} 0 1 = cc in omega arith)
 
 -- it is refused at each reading alike, or walked

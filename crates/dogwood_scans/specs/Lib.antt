@@ -1,3 +1,2 @@
-pub mod Class
 pub mod Run
 pub mod Promises

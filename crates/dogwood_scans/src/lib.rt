@@ -1,8 +1,10 @@
 // Where a run of characters of a class ends, and where a string does.
 #![tactic(auto)]
 
+mod classes;
 mod runs;
 mod strings;
 
-pub use runs::{Class, take_digits, take_line, take_other, take_spaces, take_while, take_word};
+pub use classes::{Class, Digit, Line, Other, Space, Word};
+pub use runs::take_while;
 pub use strings::string_end;

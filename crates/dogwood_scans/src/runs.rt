@@ -1,136 +1,37 @@
-// Runs of characters of a class. The run of each class begins with the bytes below 128, which need no decoding.
-ghost use Rattle.std.specs.Prelude.{◌≡◌};
-ghost use Rattle.dogwood_scans.specs.Class.{in_class};
+// Runs of characters of a class.
 ghost use Rattle.dogwood_scans.specs.Promises.{RunIs};
-ghost use Rattle.dogwood_scans.specs.declared.runs.Class.TheVariants as K;
 
-use dogwood_letters::{is_digit, is_line, is_other, is_space, is_word};
-use utf8::Decoded;
+use crate::classes::Class;
+use utf8::Char;
 
-// A class of characters, of which a token may be a run.
-#[derive(Clone, Copy)]
-pub enum Class {
-    Space,
-    Word,
-    Digit,
-    Line,
-    Other,
-}
-
-pub(crate) fn is_class(k: Class, c: u32) -> bool
-    ensures { result ≡ in_class k c }
-{
-    match k {
-        Class::Space => is_space(c),
-        Class::Word => is_word(c),
-        Class::Digit => is_digit(c),
-        Class::Line => is_line(c),
-        Class::Other => is_other(c),
-    }
-}
-
-// The end of the longest run of characters of a class.
-pub fn take_while(s: &[u8], at: usize, k: Class) -> usize
-    ensures { RunIs k s.now at result }
+// The end of the longest run of characters of a class, each of them decoded.
+#[tactic(auto, using(crate::proofs::Run::run_cut))]
+fn take_decoded<C: Class>(s: &[u8], at: usize) -> usize
+    ensures { RunIs C.members s.now at result }
 {
     let mut i = at;
-    loop {
-        let Decoded::Char { code, len } = utf8::decode(s, i) else {
-            return i;
-        };
-        if !is_class(k, code) {
-            return i;
+    while let Some(Char { code, len }) = utf8::decode(s, i) {
+        if !C::has(code) {
+            break;
         }
         i += len;
     }
-}
-
-// The end of the longest run of white space.
-pub fn take_spaces(s: &[u8], at: usize) -> usize
-    ensures { RunIs K.Space s.now at result }
-{
-    let mut i = at;
-    while i < s.len() {
-        let b = s[i];
-        if 0x80 <= b {
-            return take_while(s, i, Class::Space);
-        }
-        if !is_space(b as u32) {
-            return i;
-        }
-        i += 1;
-    }
     i
 }
 
-// The end of the longest run of ASCII letters, digits and _.
-pub fn take_word(s: &[u8], at: usize) -> usize
-    ensures { RunIs K.Word s.now at result }
+// The same. The bytes below 128 at its front need no decoding.
+#[tactic(auto, using(crate::proofs::Run::run_byte, crate::proofs::Run::run_done, crate::proofs::Run::run_out))]
+pub fn take_while<C: Class>(s: &[u8], at: usize) -> usize
+    ensures { RunIs C.members s.now at result }
 {
-    let mut i = at;
-    while i < s.len() {
+    for i in at..s.len() {
         let b = s[i];
         if 0x80 <= b {
-            return take_while(s, i, Class::Word);
+            return take_decoded::<C>(s, i);
         }
-        if !is_word(b as u32) {
+        if !C::has(u32::from(b)) {
             return i;
         }
-        i += 1;
     }
-    i
-}
-
-// The end of the longest run of digits.
-pub fn take_digits(s: &[u8], at: usize) -> usize
-    ensures { RunIs K.Digit s.now at result }
-{
-    let mut i = at;
-    while i < s.len() {
-        let b = s[i];
-        if 0x80 <= b {
-            return take_while(s, i, Class::Digit);
-        }
-        if !is_digit(b as u32) {
-            return i;
-        }
-        i += 1;
-    }
-    i
-}
-
-// The end of the longest run of what may stand in a comment.
-pub fn take_line(s: &[u8], at: usize) -> usize
-    ensures { RunIs K.Line s.now at result }
-{
-    let mut i = at;
-    while i < s.len() {
-        let b = s[i];
-        if 0x80 <= b {
-            return take_while(s, i, Class::Line);
-        }
-        if !is_line(b as u32) {
-            return i;
-        }
-        i += 1;
-    }
-    i
-}
-
-// The end of the longest run of what may stand in an Other.
-pub fn take_other(s: &[u8], at: usize) -> usize
-    ensures { RunIs K.Other s.now at result }
-{
-    let mut i = at;
-    while i < s.len() {
-        let b = s[i];
-        if 0x80 <= b {
-            return take_while(s, i, Class::Other);
-        }
-        if !is_other(b as u32) {
-            return i;
-        }
-        i += 1;
-    }
-    i
+    at.max(s.len())
 }

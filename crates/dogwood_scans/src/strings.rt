@@ -1,47 +1,42 @@
 // Strings with escapes.
 ghost use Rattle.dogwood_scans.specs.Promises.{StringIs};
 
-use utf8::{Decoded, Found};
+use utf8::Char;
 
 // The end of the string that a place lies in, behind its opening quote.
-pub(crate) fn string_rest(s: &[u8], at: usize) -> Found
+fn string_rest(s: &[u8], at: usize) -> Option<usize>
     ensures { StringIs s.now at result }
 {
     let mut i = at;
     loop {
-        let Decoded::Char { code, len } = utf8::decode(s, i) else {
-            return Found::Nothing;
-        };
+        let Char { code, len } = utf8::decode(s, i)?;
         i += len;
         if code == 0x22 {
-            return Found::At(i);
+            return Some(i);
         }
         if code == 0x5C {
-            let Decoded::Char { code: _, len: more } = utf8::decode(s, i) else {
-                return Found::Nothing;
-            };
-            i += more;
+            i += utf8::decode(s, i)?.len;
         }
     }
 }
 
 // The same. Bytes below 128 need no decoding.
-pub fn string_end(s: &[u8], at: usize) -> Found
+pub fn string_end(s: &[u8], at: usize) -> Option<usize>
     ensures { StringIs s.now at result }
 {
     let mut i = at;
     while i < s.len() {
         let b = s[i];
-        if b == 0x22 {
-            return Found::At(i + 1);
+        if b == b'"' {
+            return Some(i + 1);
         }
         if 0x80 <= b {
             return string_rest(s, i);
         }
         i += 1;
-        if b == 0x5C {
+        if b == b'\\' {
             if s.len() <= i {
-                return Found::Nothing;
+                return None;
             }
             if 0x80 <= s[i] {
                 return string_rest(s, i - 1);
@@ -49,5 +44,5 @@ pub fn string_end(s: &[u8], at: usize) -> Found
             i += 1;
         }
     }
-    Found::Nothing
+    None
 }

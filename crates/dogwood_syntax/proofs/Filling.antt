@@ -11,13 +11,13 @@ use native.Mathlib.Nat.{zero-add}
 use borrow.Author.Tests.{lt-leb, le-leb, ltb-true, ltb-false}
 use native.Mathlib.Numerals.{towards_suc}
 use Rattle.dogwood_rules.specs.Token.{Placed, words_of}
-use Rattle.utf8.specs.declared.Found.TheVariants.{At, Nothing}
 use Rattle.dogwood_tokens.specs.Cursor.{tokens_at}
 use Rattle.dogwood_tokens.specs.Tokens.{open_from}
 use Rattle.dogwood_syntax.specs.Table.{short_of}
 use Rattle.dogwood_syntax.specs.Answers.{answer, filled, table_after}
 use Rattle.dogwood_syntax.specs.declared.tokenizing.Tokenized.{Tokenized}
 use Rattle.dogwood_syntax.specs.declared.tokenizing.Tokenized.TheVariants.{Done, Unended, Small}
+use Rattle.std.specs.Prelude.{None, Some}
 
 -- ---- words
 
@@ -44,32 +44,32 @@ length_words (p ∷ ps) = let r = length_words ps in omega arith
 
 -- ---- the answer
 
-pub short_some : (records n m : ℕ) → short_of records n ≡ At m → (records < n) × (n ≡ m)
+pub short_some : (records n m : ℕ) → short_of records n ≡ Some m → (records < n) × (n ≡ m)
 unfolding short_of
 short_some records n m e = by (ltb records n) refl e
   where
-    by : (t : Bool) → ltb records n ≡ t → cond t (At n) Nothing ≡ At m → (records < n) × (n ≡ m)
+    by : (t : Bool) → ltb records n ≡ t → cond t (Some n) None ≡ Some m → (records < n) × (n ≡ m)
     by true h e = (ltb-true records n h, cc)
     by false h e = absurd (let z : ◌≡◌ {A = ℕ} 0 1 = cc in omega arith)
 
-pub short_none : (records n : ℕ) → short_of records n ≡ Nothing → n ≤ records
+pub short_none : (records n : ℕ) → short_of records n ≡ None → n ≤ records
 unfolding short_of
 short_none records n e = by (ltb records n) refl e
   where
-    by : (t : Bool) → ltb records n ≡ t → cond t (At n) Nothing ≡ Nothing → n ≤ records
+    by : (t : Bool) → ltb records n ≡ t → cond t (Some n) None ≡ None → n ≤ records
     by true h e = absurd (let z : ◌≡◌ {A = ℕ} 0 1 = cc in omega arith)
     by false h e = ltb-false records n h
 
 module _ (s : List ℕ) (l : ℕ) where
-  pub answer_open : {i : ℕ} → open_from s 0 ≡ At i → answer s l ≡ Unended i
+  pub answer_open : {i : ℕ} → open_from s 0 ≡ Some i → answer s l ≡ Unended i
   unfolding answer
   answer_open e = simp e
 
-  pub answer_small : {n : ℕ} → open_from s 0 ≡ Nothing → length (tokens_at s 0) ≡ n → l < 3 * n → answer s l ≡ Small n
+  pub answer_small : {n : ℕ} → open_from s 0 ≡ None → length (tokens_at s 0) ≡ n → l < 3 * n → answer s l ≡ Small n
   unfolding answer
   answer_small e f g = simp (e, f, lt-leb _ _ g)
 
-  pub answer_done : {n : ℕ} → open_from s 0 ≡ Nothing → length (tokens_at s 0) ≡ n → 3 * n ≤ l → answer s l ≡ Done n
+  pub answer_done : {n : ℕ} → open_from s 0 ≡ None → length (tokens_at s 0) ≡ n → 3 * n ≤ l → answer s l ≡ Done n
   unfolding answer
   answer_done e f g = simp (e, f, le-leb _ _ g)
 

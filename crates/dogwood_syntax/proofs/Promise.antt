@@ -15,7 +15,6 @@ use Rattle.dogwood_rules.specs.Promises.{Tokenises, over}
 use Rattle.dogwood_rules.proofs.Sources.{source_long, source_bad, source_open, source_cut}
 use Rattle.dogwood_rules.proofs.Decoding.{decode_sound}
 use Rattle.utf8.specs.Told.{left_at}
-use Rattle.utf8.specs.declared.Found.TheVariants.{At, Nothing}
 use Rattle.utf8.proofs.Mark.{mark_inside, length_text}
 use Rattle.dogwood_syntax.specs.declared.tokenizing.Tokenized.{Tokenized}
 use Rattle.dogwood_syntax.specs.declared.tokenizing.Tokenized.TheVariants.{Done, Unended, Small}
@@ -25,6 +24,7 @@ use Rattle.dogwood_tokens.specs.Cursor.{tokens_at}
 use Rattle.dogwood_syntax.specs.Numbers.{number, value}
 use Rattle.dogwood_syntax.proofs.Filling.{answer_open, answer_small, answer_done, table_of}
 use Rattle.dogwood_tokens.proofs.Seam.{open_seam, placed_seam}
+use Rattle.std.specs.Prelude.{None, Some}
 
 -- an answer of the rules, held against what was answered
 keeps : (s t : List ℕ) (a : Alone) (n v : ℕ) (t' : List ℕ) → tokenised s (length t) ≡ a → n ≡ a.number → v ≡ a.value → t' ≡ over a.table t → Tokenises s t n v t'
@@ -35,7 +35,7 @@ keeps s t a n v t' e p q r = record {
 }
 
 -- the place of what is left lies within the text
-pub left_inside : (l : ℕ) (bs : List ℕ) (i : ℕ) → left_at l bs ≡ At i → i ≤ l
+pub left_inside : (l : ℕ) (bs : List ℕ) (i : ℕ) → left_at l bs ≡ Some i → i ≤ l
 left_inside l [] i e = absurd (let z : ◌≡◌ {A = ℕ} 0 1 = cc in omega arith)
 left_inside l (b ∷ bs) i e = let z : l - length (b ∷ bs) ≡ i = cc in omega arith
 
@@ -51,11 +51,11 @@ long_kept s t h = keeps s t (stopped 11 0) 11 0 t (from_source s (length t) (sou
 
 module _ (s t : List ℕ) (h : length s ≤ 1048576) where
   -- 12
-  pub bad_kept : (i : ℕ) → left_at (length (text_of s)) (decode (text_of s)).1 ≡ At i → Tokenises s t 12 (length (mark_of s) + i) t
+  pub bad_kept : (i : ℕ) → left_at (length (text_of s)) (decode (text_of s)).1 ≡ Some i → Tokenises s t 12 (length (mark_of s) + i) t
   unfolding told stopped
   bad_kept i e = by (decode (text_of s)).1 refl e
     where
-      by : (l : List ℕ) → (decode (text_of s)).1 ≡ l → left_at (length (text_of s)) l ≡ At i → Tokenises s t 12 (length (mark_of s) + i) t
+      by : (l : List ℕ) → (decode (text_of s)).1 ≡ l → left_at (length (text_of s)) l ≡ Some i → Tokenises s t 12 (length (mark_of s) + i) t
       by [] k q = absurd (let z : ◌≡◌ {A = ℕ} 0 1 = cc in omega arith)
       by (b ∷ l) k q =
           let y : length (text_of s) - length (b ∷ l) ≡ i = cc in
@@ -99,7 +99,7 @@ module _ (s t : List ℕ) (h : length s ≤ 1048576) where
         all : tokenised s (length t) ≡ told (length t) total (cut_into ps)
         all = from_source s (length t) (source_cut s h e m)
 
-        none : open_from (text_of s) 0 ≡ Nothing
+        none : open_from (text_of s) 0 ≡ None
         none = open_seam (text_of s) cs good ∙ ap (open_at (length (text_of s))) m
 
         by : (b : Bool) → ltb (length t) (3 * length ps) ≡ b → Tokenises s t (number a) (value a) t'
@@ -120,10 +120,10 @@ module _ (s t : List ℕ) (h : length s ≤ 1048576) where
         by [] m = fit_kept m
         by (c ∷ l) m = open_kept c l m
 
-  pub text_kept : left_at (length (text_of s)) (decode (text_of s)).1 ≡ Nothing → (a : Tokenized) → a ≡ answer (text_of s) (length t)
+  pub text_kept : left_at (length (text_of s)) (decode (text_of s)).1 ≡ None → (a : Tokenized) → a ≡ answer (text_of s) (length t)
       → (t' : List ℕ) → t' ≡ table_after (text_of s) t → Tokenises s t (number a) (value a) t'
   text_kept e a p t' r = by (decode (text_of s)).1 refl e
     where
-      by : (l : List ℕ) → (decode (text_of s)).1 ≡ l → left_at (length (text_of s)) l ≡ Nothing → Tokenises s t (number a) (value a) t'
+      by : (l : List ℕ) → (decode (text_of s)).1 ≡ l → left_at (length (text_of s)) l ≡ None → Tokenises s t (number a) (value a) t'
       by [] k q = whole_kept k a p t' r
       by (b ∷ l) k q = absurd (let z : ◌≡◌ {A = ℕ} 0 1 = cc in omega arith)

@@ -1,17 +1,15 @@
 -- What tokenising a text answers, and the table afterwards.
-use Rattle.std.specs.Prelude.{ℕ, ◌*◌, List, ◌++◌, cond, length, drop, leb}
+use Rattle.std.specs.Prelude.{ℕ, ◌*◌, List, ◌++◌, cond, length, drop, leb, None, Option, Some}
 use Rattle.dogwood_rules.specs.Token.{words_of}
-use Rattle.utf8.specs.declared.Found.{Found}
-use Rattle.utf8.specs.declared.Found.TheVariants.{At, Nothing}
 use Rattle.dogwood_syntax.specs.declared.tokenizing.Tokenized.{Tokenized}
 use Rattle.dogwood_syntax.specs.declared.tokenizing.Tokenized.TheVariants.{Done, Unended, Small, NotUtf8, TooLong}
 use Rattle.dogwood_tokens.specs.Cursor.{tokens_at}
 use Rattle.dogwood_tokens.specs.Tokens.{open_from}
 
 -- a string without end; then a table of l words that is too small; else the number of tokens
-abbrev pub fitted : Found → ℕ → ℕ → Tokenized
-fitted (At i) n l = Unended i
-fitted Nothing n l = cond (leb (3 * n) l) (Done n) (Small n)
+abbrev pub fitted : Option ℕ → ℕ → ℕ → Tokenized
+fitted (Some i) n l = Unended i
+fitted None n l = cond (leb (3 * n) l) (Done n) (Small n)
 
 -- the table begins with the words, the rest as before; it is as before unless the answer is Done
 abbrev pub filled : Tokenized → List ℕ → List ℕ → List ℕ

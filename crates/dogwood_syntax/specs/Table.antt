@@ -1,9 +1,7 @@
 -- What the writing of the table comes to.
-use Rattle.std.specs.Prelude.{ℕ, ◌≤◌, ◌≡◌, cond, List, [], ◌∷◌, ltb, length}
+use Rattle.std.specs.Prelude.{ℕ, ◌≤◌, ◌≡◌, cond, List, [], ◌∷◌, ltb, length, None, Option, Some}
 use Rattle.std.proofs.lemmas.List.Edits.{sets}
 use Rattle.dogwood_rules.specs.Token.{words_of}
-use Rattle.utf8.specs.declared.Found.{Found}
-use Rattle.utf8.specs.declared.Found.TheVariants.{At, Nothing}
 use Rattle.dogwood_tokens.specs.declared.cursor.Token.{Token}
 use Rattle.dogwood_tokens.specs.Cursor.{tokens_at}
 
@@ -17,5 +15,5 @@ pub record Filled (text table : List ℕ) (n : ℕ) (table' : List ℕ) : Type 0
   pub written : length (words_of (tokens_at text 0)) ≤ length table → table' ≡ sets table 0 (words_of (tokens_at text 0))
 
 -- the number n of tokens, if it is more than that of the records
-unfoldable pub short_of : ℕ → ℕ → Found
-short_of records n = cond (ltb records n) (At n) Nothing
+unfoldable pub short_of : ℕ → ℕ → Option ℕ
+short_of records n = cond (ltb records n) (Some n) None

@@ -1,5 +1,5 @@
 -- THE TOKEN BRIDGE, one token: what stands at a place is what dogwood_rules' seven rules give at the front of the characters from there on.
-use Rattle.std.specs.Prelude.{if◌then◌else◌}
+use Rattle.std.specs.Prelude.{if◌then◌else◌, Some}
 use Prim.Native.Nat.{ℕ, ◌+◌, ◌<◌, ◌≤◌}
 use mathlib.Core.Path.{◌≡◌, refl, sym, ap, ◌∙◌, subst}
 use mathlib.Core.Bool.{Bool, true, false, cond, not, ◌&&◌, false≢true}
@@ -15,19 +15,17 @@ use Rattle.dogwood_rules.specs.Token.{white, letter, digit, wordly, single, doub
 use Rattle.dogwood_rules.specs.Token as R
 use Rattle.dogwood_rules.proofs.Runs.{run_more}
 use Rattle.utf8.specs.Utf8.{decode_at}
-use Rattle.utf8.specs.declared.Decoded.TheVariants.{Char}
 use Rattle.utf8.proofs.Cases.{and_true}
 use Rattle.utf8.proofs.Reading.{Reads, reads_more, size_ascii, next_at_lem}
-use Rattle.dogwood_scans.specs.declared.runs.Class.{Class}
-use Rattle.dogwood_scans.specs.declared.runs.Class.TheVariants.{Space, Word, Digit, Line, Other}
 use Rattle.dogwood_tokens.specs.declared.token.Lexeme.{Lexeme}
 use Rattle.dogwood_tokens.specs.declared.token.Lexeme.TheVariants.{Token, NoEnd}
-use Rattle.dogwood_scans.specs.Class.{in_class}
 use Rattle.dogwood_scans.specs.Run.{run_end, string_end}
 use Rattle.dogwood_letters.specs.Symbol.{symbol_len}
 use Rattle.dogwood_tokens.specs.Token.{string_to, begins, lexeme, token_at}
 use Rattle.dogwood_letters.proofs.SymbolLaws.{eqb_sym, double-zero, double_big, double-next, single_big}
 use Rattle.dogwood_tokens.proofs.Onwards.{run_reads, string_reads, ended}
+use Rattle.dogwood_letters.specs.Promises.{in_line}
+use Rattle.utf8.specs.Char.{char_of}
 
 -- the token at the place i, from what the rules give
 abbrev pub lexeme_of : ℕ → Option (R.Token × ℕ) → Lexeme
@@ -81,7 +79,7 @@ other_in c h₁ h₂ h₄ h₅ h₇ = simp (h₁, h₂, h₄, h₅, h₇)
 
 -- ---- the rules
 
-module _ (s : List ℕ) (i c : ℕ) (cs : List ℕ) (d : decode_at s i ≡ Char c (size c)) (r : Reads s (i + size c) cs) where
+module _ (s : List ℕ) (i c : ℕ) (cs : List ℕ) (d : decode_at s i ≡ char_of c (size c)) (r : Reads s (i + size c) cs) where
   behind : c < 128 → Reads s (i + 1) cs
   behind h = subst (λ (n : ℕ). Reads s (i + n) cs) (size_ascii c h) r
 
@@ -105,8 +103,8 @@ module _ (s : List ℕ) (i c : ℕ) (cs : List ℕ) (d : decode_at s i ≡ Char 
       by true h = let k = ltb-true c 128 h in next_at_lem s (double c) (λ b l. double-next c b k l) (double-zero c) (behind k)
       by false h = let k = ltb-false c 128 h in double_big c (get_or s (i + 1) 0) k ∙ sym (no_next cs k)
 
-  run_token : (k : Class) → in_class k c ≡ true → run_end k s i ≡ i + byte_length (c ∷ take (run_length (in_class k) cs) cs)
-  run_token k h = run_reads k s (reads_more d r) ∙ ap (λ (n : ℕ). i + byte_length (take n (c ∷ cs))) (run_more (in_class k) c cs h)
+  run_token : (k : ℕ → Bool) → k c ≡ true → run_end k s i ≡ i + byte_length (c ∷ take (run_length k cs) cs)
+  run_token k h = run_reads k s (reads_more d r) ∙ ap (λ (n : ℕ). i + byte_length (take n (c ∷ cs))) (run_more k c cs h)
 
   string_token : c < 128 → (o : Option ℕ) → string_to (ended (i + 1) cs o) ≡ lexeme_of i (string_piece c cs o)
   unfolding string_piece piece kind_number byte_length
@@ -118,13 +116,13 @@ module _ (s : List ℕ) (i c : ℕ) (cs : List ℕ) (d : decode_at s i ≡ Char 
 
   by : (t₁ t₂ t₃ t₄ t₅ t₆ t₇ : Bool) → white c ≡ t₁ → eqb c 34 ≡ t₂ → eqb c 47 && next (eqb 47) cs ≡ t₃ → letter c ≡ t₄ → digit c ≡ t₅
       → next (double c) cs ≡ t₆ → single c ≡ t₇
-      → cond t₁ (Token 0 (run_end Space s i))
+      → cond t₁ (Token 0 (run_end white s i))
       (cond t₂ (string_to (string_end s (i + 1)))
-      (cond t₃ (Token 1 (run_end Line s i))
-      (cond t₄ (Token 3 (run_end Word s i))
-      (cond t₅ (Token 4 (run_end Digit s i))
+      (cond t₃ (Token 1 (run_end in_line s i))
+      (cond t₄ (Token 3 (run_end wordly s i))
+      (cond t₅ (Token 4 (run_end digit s i))
       (cond (ltb 0 (cond t₆ 2 (cond t₇ 1 0))) (Token 5 (i + cond t₆ 2 (cond t₇ 1 0)))
-      (Token 6 (run_end Other s i)))))))
+      (Token 6 (run_end other s i)))))))
       ≡ lexeme_of i
       (if t₁ then piece Whitespace c cs (run_length white cs)
       else if t₂ then string_piece c cs (closing false cs)
@@ -134,18 +132,18 @@ module _ (s : List ℕ) (i c : ℕ) (cs : List ℕ) (d : decode_at s i ≡ Char 
       else if t₆ then piece R.Symbol c cs 1
       else if t₇ then piece R.Symbol c cs 0
       else piece R.Other c cs (run_length other cs))
-  unfolding piece kind_number in_class
-  by true t₂ t₃ t₄ t₅ t₆ t₇ h₁ h₂ h₃ h₄ h₅ h₆ h₇ = ap (Token 0) (run_token Space h₁)
+  unfolding piece kind_number
+  by true t₂ t₃ t₄ t₅ t₆ t₇ h₁ h₂ h₃ h₄ h₅ h₆ h₇ = ap (Token 0) (run_token white h₁)
   by false true t₃ t₄ t₅ t₆ t₇ h₁ h₂ h₃ h₄ h₅ h₆ h₇ =
       let q = eqb-true c 34 h₂ in
       let u : c < 128 = omega arith in
       ap string_to (string_reads s (behind u)) ∙ string_token u (closing false cs)
-  by false false true t₄ t₅ t₆ t₇ h₁ h₂ h₃ h₄ h₅ h₆ h₇ = ap (Token 1) (run_token Line (slash_in c (eqb-true c 47 (and_true _ (next (eqb 47) cs) h₃).0)))
-  by false false false true t₅ t₆ t₇ h₁ h₂ h₃ h₄ h₅ h₆ h₇ = ap (Token 3) (run_token Word (letter_in c h₄))
-  by false false false false true t₆ t₇ h₁ h₂ h₃ h₄ h₅ h₆ h₇ = ap (Token 4) (run_token Digit h₅)
+  by false false true t₄ t₅ t₆ t₇ h₁ h₂ h₃ h₄ h₅ h₆ h₇ = ap (Token 1) (run_token in_line (slash_in c (eqb-true c 47 (and_true _ (next (eqb 47) cs) h₃).0)))
+  by false false false true t₅ t₆ t₇ h₁ h₂ h₃ h₄ h₅ h₆ h₇ = ap (Token 3) (run_token wordly (letter_in c h₄))
+  by false false false false true t₆ t₇ h₁ h₂ h₃ h₄ h₅ h₆ h₇ = ap (Token 4) (run_token digit h₅)
   by false false false false false true t₇ h₁ h₂ h₃ h₄ h₅ h₆ h₇ = ap (λ (n : ℕ). Token 5 (i + n)) (sym (double-size c cs h₆))
   by false false false false false false true h₁ h₂ h₃ h₄ h₅ h₆ h₇ = ap (λ (n : ℕ). Token 5 (i + n)) (sym (single-size c h₇))
-  by false false false false false false false h₁ h₂ h₃ h₄ h₅ h₆ h₇ = ap (Token 6) (run_token Other (other_in c h₁ h₂ h₄ h₅ h₇))
+  by false false false false false false false h₁ h₂ h₃ h₄ h₅ h₆ h₇ = ap (Token 6) (run_token other (other_in c h₁ h₂ h₄ h₅ h₇))
 
   pub token-reads : token_at s i ≡ lexeme_of i (token (c ∷ cs))
   unfolding token_at begins symbol_len token

@@ -15,15 +15,12 @@ use Rattle.dogwood_rules.specs.Token.{closing}
 use Rattle.dogwood_rules.proofs.Runs.{run_more, run_none}
 use Rattle.dogwood_rules.proofs.Calm.{up, closing-escaped, closing-quote, closing-plain}
 use Rattle.utf8.specs.Utf8.{decode_at}
-use Rattle.utf8.specs.declared.Decoded.{Decoded}
-use Rattle.utf8.specs.declared.Decoded.TheVariants.{Char, Fault}
-use Rattle.utf8.specs.declared.Found.{Found}
-use Rattle.utf8.specs.declared.Found.TheVariants.{At, Nothing}
 use Rattle.utf8.proofs.Reading.{Reads, reads_end, reads_more}
-use Rattle.dogwood_scans.specs.declared.runs.Class.{Class}
-use Rattle.dogwood_scans.specs.Class.{in_class}
 use Rattle.dogwood_scans.specs.Run.{run_end, string_end}
 use Rattle.dogwood_scans.proofs.Run.{run_on, run_off, run_cut, string_cut, string_close, string_past, string_escape, string_open}
+use Rattle.std.specs.Prelude.{None, Option, Some}
+use Rattle.utf8.specs.declared.Char.{Char}
+use Rattle.utf8.specs.Char.{char_of}
 
 -- n characters on
 pub reads-drop : (s : List ℕ) {i : ℕ} {cs : List ℕ} (n : ℕ) → Reads s i cs → Reads s (i + byte_length (take n cs)) (drop n cs)
@@ -35,42 +32,42 @@ reads-drop s {i} (suc n) (reads_more {c} {cs} d r) =
     subst (λ (j : ℕ). Reads s j (drop n cs)) q (reads-drop s {i = i + size c} n r)
 
 -- a run
-pub run_reads : (k : Class) (s : List ℕ) {i : ℕ} {cs : List ℕ} → Reads s i cs → run_end k s i ≡ i + byte_length (take (run_length (in_class k) cs) cs)
+pub run_reads : (k : ℕ → Bool) (s : List ℕ) {i : ℕ} {cs : List ℕ} → Reads s i cs → run_end k s i ≡ i + byte_length (take (run_length k cs) cs)
 unfolding byte_length
 run_reads k s {i} (reads_end d) = run_cut k s i d ∙ sym (add-zero i)
-run_reads k s {i} (reads_more {c} {cs} d r) = by (run_reads k s r) (in_class k c) refl
+run_reads k s {i} (reads_more {c} {cs} d r) = by (run_reads k s r) (k c) refl
   where
-    by : run_end k s (i + size c) ≡ i + size c + byte_length (take (run_length (in_class k) cs) cs) → (t : Bool) → in_class k c ≡ t
-        → run_end k s i ≡ i + byte_length (take (run_length (in_class k) (c ∷ cs)) (c ∷ cs))
+    by : run_end k s (i + size c) ≡ i + size c + byte_length (take (run_length k cs) cs) → (t : Bool) → k c ≡ t
+        → run_end k s i ≡ i + byte_length (take (run_length k (c ∷ cs)) (c ∷ cs))
     by ih true h =
         run_on k s i d h ∙ ih
-        ∙ (let q : i + size c + byte_length (take (run_length (in_class k) cs) cs) ≡ i + (size c + byte_length (take (run_length (in_class k) cs) cs)) = omega arith in q)
-        ∙ ap (λ (n : ℕ). i + byte_length (take n (c ∷ cs))) (sym (run_more (in_class k) c cs h))
-    by ih false h = run_off k s i d h ∙ sym (add-zero i) ∙ ap (λ (n : ℕ). i + byte_length (take n (c ∷ cs))) (sym (run_none (in_class k) c cs h))
+        ∙ (let q : i + size c + byte_length (take (run_length k cs) cs) ≡ i + (size c + byte_length (take (run_length k cs) cs)) = omega arith in q)
+        ∙ ap (λ (n : ℕ). i + byte_length (take n (c ∷ cs))) (sym (run_more k c cs h))
+    by ih false h = run_off k s i d h ∙ sym (add-zero i) ∙ ap (λ (n : ℕ). i + byte_length (take n (c ∷ cs))) (sym (run_none k c cs h))
 
 -- where a string ends, from the number of its characters
-abbrev pub ended : ℕ → List ℕ → Option ℕ → Found
-ended i cs none = Nothing
-ended i cs (some n) = At (i + byte_length (take n cs))
+abbrev pub ended : ℕ → List ℕ → Option ℕ → Option ℕ
+ended i cs none = None
+ended i cs (some n) = Some (i + byte_length (take n cs))
 
 ended_up : (i c : ℕ) (cs : List ℕ) (o : Option ℕ) → ended (i + size c) cs o ≡ ended i (c ∷ cs) (up o)
 unfolding byte_length
 ended_up i c cs none = refl
 ended_up i c cs (some n) =
     let q : i + size c + byte_length (take n cs) ≡ i + (size c + byte_length (take n cs)) = omega arith in
-    ap At q
+    ap Some q
 
 -- what comes of a string behind a backslash
-abbrev behind : List ℕ → ℕ → Decoded → Found
-behind s i (Char c n) = string_end s (i + n)
-behind s i Fault = Nothing
+abbrev behind : List ℕ → ℕ → Option Char → Option ℕ
+behind s i (char_of c n) = string_end s (i + n)
+behind s i None = None
 
-string_behind : (s : List ℕ) (i c n : ℕ) → decode_at s i ≡ Char c n → (c ≡ 0x22 → ⊥) → c ≡ 0x5C → string_end s i ≡ behind s (i + n) (decode_at s (i + n))
+string_behind : (s : List ℕ) (i c n : ℕ) → decode_at s i ≡ char_of c n → (c ≡ 0x22 → ⊥) → c ≡ 0x5C → string_end s i ≡ behind s (i + n) (decode_at s (i + n))
 string_behind s i c n d h k = by (decode_at s (i + n)) refl
   where
-    by : (x : Decoded) → decode_at s (i + n) ≡ x → string_end s i ≡ behind s (i + n) x
-    by (Char e m) f = string_escape s i d h k f
-    by Fault f = string_open s i d h k f
+    by : (x : Option Char) → decode_at s (i + n) ≡ x → string_end s i ≡ behind s (i + n) x
+    by (char_of e m) f = string_escape s i d h k f
+    by None f = string_open s i d h k f
 
 both : (s : List ℕ) {i : ℕ} {cs : List ℕ} → Reads s i cs
     → (string_end s i ≡ ended i cs (closing false cs)) × (behind s i (decode_at s i) ≡ ended i cs (closing true cs))
@@ -86,7 +83,7 @@ both s {i} (reads_more {c} {cs} d r) = by (both s r) (eqb c 34) refl (eqb c 92) 
         this : (t : Bool) → eqb c 34 ≡ t → (u : Bool) → eqb c 92 ≡ u → string_end s i ≡ ended i (c ∷ cs) (closing false (c ∷ cs))
         this true h u k =
             string_close s i d (eqb-true c 34 h)
-            ∙ ap (λ (n : ℕ). At (i + n)) (sym (add-zero (size c)))
+            ∙ ap (λ (n : ℕ). Some (i + n)) (sym (add-zero (size c)))
             ∙ ap (ended i (c ∷ cs)) (sym (closing-quote c cs h))
         this false h true k =
             string_behind s i c (size c) d (eqb-false c 34 h) (eqb-true c 92 k)

@@ -10,19 +10,12 @@ use lib.Dec.{eqb, ltb}
 use Rattle.dogwood_rules.specs.Token.{white, letter, digit, wordly, single, double, other}
 use Rattle.utf8.specs.Utf8.{decode_at}
 use Rattle.utf8.specs.Walk.{stop, go}
-use Rattle.utf8.specs.declared.Decoded.{Decoded}
-use Rattle.utf8.specs.declared.Decoded.TheVariants.{Char, Fault}
-use Rattle.utf8.specs.declared.Found.{Found}
-use Rattle.utf8.specs.declared.Found.TheVariants.{At, Nothing}
 use Rattle.utf8.proofs.Cases.{and_true}
 use Rattle.utf8.proofs.Inside.{inside, plain}
 use Rattle.utf8.proofs.Reading.{size_at, size_ascii, wide_at, end_fault}
 use Rattle.utf8.proofs.Walk.{Onward, from_go, from_stop, from_ind, stop≢go}
-use Rattle.dogwood_scans.specs.declared.runs.Class.{Class}
-use Rattle.dogwood_scans.specs.declared.runs.Class.TheVariants.{Space, Word, Digit, Line, Other}
 use Rattle.dogwood_tokens.specs.declared.token.Lexeme.{Lexeme}
 use Rattle.dogwood_tokens.specs.declared.token.Lexeme.TheVariants.{Token, NoEnd, End}
-use Rattle.dogwood_scans.specs.Class.{in_class}
 use Rattle.dogwood_scans.specs.Run.{past_one, run_step, run_end, string_end}
 use Rattle.dogwood_tokens.specs.Scan.{quote, scanned, scan_step, scan_from}
 use Rattle.dogwood_letters.specs.Symbol.{symbol_len}
@@ -33,69 +26,72 @@ use Rattle.dogwood_scans.proofs.Run.{run_onward}
 use Rattle.dogwood_tokens.proofs.Bounds.{run_stop, run_some, string_inside, double_inside}
 use Rattle.dogwood_tokens.proofs.Front.{single_ascii, double_ascii, slash_in}
 use Rattle.dogwood_tokens.proofs.Tokens.{open_onward}
+use Rattle.std.specs.Prelude.{None, Option, Some}
+use Rattle.utf8.specs.declared.Char.{Char}
+use Rattle.dogwood_letters.specs.Promises.{in_line}
+use Rattle.utf8.specs.Char.{char_of}
 
 pub scan_onward : (s : List ℕ) → Onward (scan_step s) (length s)
-unfolding scan_step in_class
+unfolding scan_step
 scan_onward s i a j e = by (decode_at s i) refl e
   where
-    string : (f : Found) → string_end s (i + 1) ≡ f → quote i f ≡ go a j → (i < j) × (j ≤ length s)
-    string (At x) h e = let z : x ≡ j = cc in let p = string_inside s (i + 1) x h in omega arith
-    string Nothing h e = absurd (stop≢go e)
+    string : (f : Option ℕ) → string_end s (i + 1) ≡ f → quote i f ≡ go a j → (i < j) × (j ≤ length s)
+    string (Some x) h e = let z : x ≡ j = cc in let p = string_inside s (i + 1) x h in omega arith
+    string None h e = absurd (stop≢go e)
 
-    tests : (c n : ℕ) (t u : Bool) → decode_at s i ≡ Char c n → (eqb c 0x2F && eqb (get_or s (i + 1) 0) 0x2F) ≡ u
-        → cond t (quote i (string_end s (i + 1))) (cond u (go tt (run_end Line s i)) (go tt (i + n))) ≡ go a j → (i < j) × (j ≤ length s)
+    tests : (c n : ℕ) (t u : Bool) → decode_at s i ≡ char_of c n → (eqb c 0x2F && eqb (get_or s (i + 1) 0) 0x2F) ≡ u
+        → cond t (quote i (string_end s (i + 1))) (cond u (go tt (run_end in_line s i)) (go tt (i + n))) ≡ go a j → (i < j) × (j ≤ length s)
     tests c n true u d h e = string (string_end s (i + 1)) refl e
     tests c n false true d h e =
-        let z : run_end Line s i ≡ j = cc in
-        let p = run_some Line s i d (slash_in c (eqb-true c 0x2F (and_true _ _ h).0)) in
+        let z : run_end in_line s i ≡ j = cc in
+        let p = run_some in_line s i d (slash_in c (eqb-true c 0x2F (and_true _ _ h).0)) in
         omega arith
     tests c n false false d h e = let z : i + n ≡ j = cc in let p = inside s i d in omega arith
 
-    by : (x : Decoded) → decode_at s i ≡ x → scanned s i x ≡ go a j → (i < j) × (j ≤ length s)
-    by (Char c n) d e = tests c n (eqb c 0x22) (eqb c 0x2F && eqb (get_or s (i + 1) 0) 0x2F) d refl e
-    by Fault d e = absurd (stop≢go e)
+    by : (x : Option Char) → decode_at s i ≡ x → scanned s i x ≡ go a j → (i < j) × (j ≤ length s)
+    by (char_of c n) d e = tests c n (eqb c 0x22) (eqb c 0x2F && eqb (get_or s (i + 1) 0) 0x2F) d refl e
+    by None d e = absurd (stop≢go e)
 
 -- ---- one step
 
 module _ (s : List ℕ) (i : ℕ) where
-  pub scan_fault : decode_at s i ≡ Fault → scan_from s i ≡ Nothing
+  pub scan_fault : decode_at s i ≡ None → scan_from s i ≡ None
   unfolding scan_from scan_step
-  scan_fault d = from_stop (scan_step s) (λ u r. r) Nothing (length s) i (simp d)
+  scan_fault d = from_stop (scan_step s) (λ u r. r) None (length s) i (simp d)
 
-  pub scan_out : length s ≤ i → scan_from s i ≡ Nothing
+  pub scan_out : length s ≤ i → scan_from s i ≡ None
   scan_out l = scan_fault (end_fault s i l)
 
-  module _ {c n : ℕ} (d : decode_at s i ≡ Char c n) where
-    pub scan_closed : {e : ℕ} → eqb c 0x22 ≡ true → string_end s (i + 1) ≡ At e → scan_from s i ≡ scan_from s e
+  module _ {c n : ℕ} (d : decode_at s i ≡ char_of c n) where
+    pub scan_closed : {e : ℕ} → eqb c 0x22 ≡ true → string_end s (i + 1) ≡ Some e → scan_from s i ≡ scan_from s e
     unfolding scan_from scan_step
-    scan_closed {e} t f = from_go (scan_step s) (λ u r. r) Nothing (length s) (scan_onward s) i e (simp (d, t, f))
+    scan_closed {e} t f = from_go (scan_step s) (λ u r. r) None (length s) (scan_onward s) i e (simp (d, t, f))
 
-    pub scan_open : eqb c 0x22 ≡ true → string_end s (i + 1) ≡ Nothing → scan_from s i ≡ At i
+    pub scan_open : eqb c 0x22 ≡ true → string_end s (i + 1) ≡ None → scan_from s i ≡ Some i
     unfolding scan_from scan_step
-    scan_open t f = from_stop (scan_step s) (λ u r. r) Nothing (length s) i (simp (d, t, f))
+    scan_open t f = from_stop (scan_step s) (λ u r. r) None (length s) i (simp (d, t, f))
 
-    pub scan_comment : eqb c 0x22 ≡ false → (eqb c 0x2F && eqb (get_or s (i + 1) 0) 0x2F) ≡ true → scan_from s i ≡ scan_from s (run_end Line s i)
+    pub scan_comment : eqb c 0x22 ≡ false → (eqb c 0x2F && eqb (get_or s (i + 1) 0) 0x2F) ≡ true → scan_from s i ≡ scan_from s (run_end in_line s i)
     unfolding scan_from scan_step
-    scan_comment t u = from_go (scan_step s) (λ u r. r) Nothing (length s) (scan_onward s) i (run_end Line s i) (simp (d, t, u))
+    scan_comment t u = from_go (scan_step s) (λ u r. r) None (length s) (scan_onward s) i (run_end in_line s i) (simp (d, t, u))
 
     pub scan_past : eqb c 0x22 ≡ false → (eqb c 0x2F && eqb (get_or s (i + 1) 0) 0x2F) ≡ false → scan_from s i ≡ scan_from s (i + n)
     unfolding scan_from scan_step
-    scan_past t u = from_go (scan_step s) (λ u r. r) Nothing (length s) (scan_onward s) i (i + n) (simp (d, t, u))
+    scan_past t u = from_go (scan_step s) (λ u r. r) None (length s) (scan_onward s) i (i + n) (simp (d, t, u))
 
 -- the same by the byte that stands there
 module _ (s : List ℕ) (i : ℕ) (l : i < length s) where
-  pub byte_closed : {e : ℕ} → get_or s i 0 ≡ 0x22 → string_end s (i + 1) ≡ At e → scan_from s i ≡ scan_from s e
+  pub byte_closed : {e : ℕ} → get_or s i 0 ≡ 0x22 → string_end s (i + 1) ≡ Some e → scan_from s i ≡ scan_from s e
   byte_closed h f = scan_closed s i (plain s i 0x22 l h (omega arith)) refl f
 
-  pub byte_open : get_or s i 0 ≡ 0x22 → string_end s (i + 1) ≡ Nothing → scan_from s i ≡ At i
+  pub byte_open : get_or s i 0 ≡ 0x22 → string_end s (i + 1) ≡ None → scan_from s i ≡ Some i
   byte_open h f = scan_open s i (plain s i 0x22 l h (omega arith)) refl f
 
-  pub byte_comment : get_or s i 0 ≡ 0x2F → get_or s (i + 1) 0 ≡ 0x2F → scan_from s i ≡ scan_from s (run_end Line s i)
+  pub byte_comment : get_or s i 0 ≡ 0x2F → get_or s (i + 1) 0 ≡ 0x2F → scan_from s i ≡ scan_from s (run_end in_line s i)
   byte_comment h k = scan_comment s i (plain s i 0x2F l h (omega arith)) refl (simp k)
 
-  pub comment_inside : get_or s i 0 ≡ 0x2F → (i < run_end Line s i) × (run_end Line s i ≤ length s)
-  unfolding in_class
-  comment_inside h = run_some Line s i (plain s i 0x2F l h (omega arith)) (slash_in 0x2F refl)
+  pub comment_inside : get_or s i 0 ≡ 0x2F → (i < run_end in_line s i) × (run_end in_line s i ≤ length s)
+  comment_inside h = run_some in_line s i (plain s i 0x2F l h (omega arith)) (slash_in 0x2F refl)
 
   pub byte_past : get_or s i 0 < 128 → (get_or s i 0 ≡ 0x22 → ⊥) → (get_or s i 0 ≡ 0x2F → get_or s (i + 1) 0 ≡ 0x2F → ⊥) → scan_from s i ≡ scan_from s (i + 1)
   byte_past h q k = scan_past s i (plain s i (get_or s i 0) l refl h) (ne_eqb _ _ q) (by (eqb (get_or s i 0) 0x2F) refl)
@@ -104,7 +100,7 @@ module _ (s : List ℕ) (i : ℕ) (l : i < length s) where
       by true e = ne_eqb _ _ (k (eqb-true _ _ e))
       by false e = refl
 
-  pub wide_past : {c n : ℕ} → decode_at s i ≡ Char c n → 128 ≤ get_or s i 0 → scan_from s i ≡ scan_from s (i + n)
+  pub wide_past : {c n : ℕ} → decode_at s i ≡ char_of c n → 128 ≤ get_or s i 0 → scan_from s i ≡ scan_from s (i + n)
   wide_past {c} {n} d h =
       let w = wide_at s i d h in
       scan_past s i d (ne_eqb c 0x22 (λ (q : c ≡ 0x22). omega arith)) (simp (ne_eqb c 0x2F (λ (q : c ≡ 0x2F). omega arith)))
@@ -119,7 +115,7 @@ not_that f x e c h = by (eqb c x) refl
     by true k = absurd (false≢true (sym e ∙ ap f (sym (eqb-true c x k)) ∙ h))
     by false k = refl
 
-module _ (k : Class) (no-quote : in_class k 0x22 ≡ false) (no_slash : in_class k 0x2F ≡ false) (s : List ℕ) where
+module _ (k : ℕ → Bool) (no-quote : k 0x22 ≡ false) (no_slash : k 0x2F ≡ false) (s : List ℕ) where
   pub scan_run : (i : ℕ) → scan_from s (run_end k s i) ≡ scan_from s i
   unfolding run_end run_step
   scan_run =
@@ -127,30 +123,30 @@ module _ (k : Class) (no-quote : in_class k 0x22 ≡ false) (no_slash : in_class
       (λ i r e. ap (scan_from s) (run_stop k s i r e))
       (λ i j a r e p. p ∙ by i j a (decode_at s i) refl e)
     where
-      tests : (i j : ℕ) (a : Unit {0}) (c n : ℕ) (t : Bool) → decode_at s i ≡ Char c n → in_class k c ≡ t → cond t (go tt (i + n)) (stop i) ≡ go a j
+      tests : (i j : ℕ) (a : Unit {0}) (c n : ℕ) (t : Bool) → decode_at s i ≡ char_of c n → k c ≡ t → cond t (go tt (i + n)) (stop i) ≡ go a j
           → scan_from s j ≡ scan_from s i
       tests i j a c n true d h e =
           let z : i + n ≡ j = cc in
           ap (scan_from s) (sym z)
-          ∙ sym (scan_past s i d (not_that (in_class k) 0x22 no-quote c h) (simp (not_that (in_class k) 0x2F no_slash c h)))
+          ∙ sym (scan_past s i d (not_that k 0x22 no-quote c h) (simp (not_that k 0x2F no_slash c h)))
       tests i j a c n false d h e = absurd (stop≢go e)
 
-      by : (i j : ℕ) (a : Unit {0}) (x : Decoded) → decode_at s i ≡ x → past_one k i x ≡ go a j → scan_from s j ≡ scan_from s i
-      by i j a (Char c n) d e = tests i j a c n (in_class k c) d refl e
-      by i j a Fault d e = absurd (stop≢go e)
+      by : (i j : ℕ) (a : Unit {0}) (x : Option Char) → decode_at s i ≡ x → past_one k i x ≡ go a j → scan_from s j ≡ scan_from s i
+      by i j a (char_of c n) d e = tests i j a c n (k c) d refl e
+      by i j a None d e = absurd (stop≢go e)
 
 -- ---- a token
 
 -- where the scan goes on behind what stands at a place
-abbrev after : List ℕ → ℕ → Lexeme → Found
+abbrev after : List ℕ → ℕ → Lexeme → Option ℕ
 after s i (Token k e) = scan_from s e
-after s i NoEnd = At i
-after s i End = Nothing
+after s i NoEnd = Some i
+after s i End = None
 
-module _ (s : List ℕ) (i c n : ℕ) (d : decode_at s i ≡ Char c n) where
-  string_after : (f : Found) → string_end s (i + 1) ≡ f → eqb c 0x22 ≡ true → scan_from s i ≡ after s i (string_to f)
-  string_after (At e) h t = scan_closed s i d t h
-  string_after Nothing h t = scan_open s i d t h
+module _ (s : List ℕ) (i c n : ℕ) (d : decode_at s i ≡ char_of c n) where
+  string_after : (f : Option ℕ) → string_end s (i + 1) ≡ f → eqb c 0x22 ≡ true → scan_from s i ≡ after s i (string_to f)
+  string_after (Some e) h t = scan_closed s i d t h
+  string_after None h t = scan_open s i d t h
 
   one_byte : c < 128 → n ≡ 1
   one_byte h = size_at s i d ∙ size_ascii c h
@@ -172,14 +168,14 @@ module _ (s : List ℕ) (i c n : ℕ) (d : decode_at s i ≡ Char c n) where
       → double c (get_or s (i + 1) 0) ≡ t₆ → single c ≡ t₇
       → scan_from s i
       ≡ after s i
-      (cond t₁ (Token 0 (run_end Space s i))
+      (cond t₁ (Token 0 (run_end white s i))
       (cond t₂ (string_to (string_end s (i + 1)))
-      (cond t₃ (Token 1 (run_end Line s i))
-      (cond t₄ (Token 3 (run_end Word s i))
-      (cond t₅ (Token 4 (run_end Digit s i))
+      (cond t₃ (Token 1 (run_end in_line s i))
+      (cond t₄ (Token 3 (run_end wordly s i))
+      (cond t₅ (Token 4 (run_end digit s i))
       (cond (ltb 0 (cond t₆ 2 (cond t₇ 1 0))) (Token 5 (i + cond t₆ 2 (cond t₇ 1 0)))
-      (Token 6 (run_end Other s i))))))))
-  unfolding in_class white wordly letter digit other single
+      (Token 6 (run_end other s i))))))))
+  unfolding white wordly letter digit other single
   by true t₂ t₃ t₄ t₅ t₆ t₇ h₁ h₂ h₃ h₆ h₇ = sym (scan_run Space refl refl s i)
   by false true t₃ t₄ t₅ t₆ t₇ h₁ h₂ h₃ h₆ h₇ = string_after (string_end s (i + 1)) refl h₂
   by false false true t₄ t₅ t₆ t₇ h₁ h₂ h₃ h₆ h₇ = scan_comment s i d h₂ h₃
@@ -194,25 +190,25 @@ scan_token : (s : List ℕ) (i : ℕ) → scan_from s i ≡ after s i (token_at 
 unfolding token_at begins symbol_len
 scan_token s i = go_on (decode_at s i) refl
   where
-    go_on : (x : Decoded) → decode_at s i ≡ x → scan_from s i ≡ after s i (lexeme s i x)
-    go_on (Char c n) d =
+    go_on : (x : Option Char) → decode_at s i ≡ x → scan_from s i ≡ after s i (lexeme s i x)
+    go_on (char_of c n) d =
         by s i c n d (white c) (eqb c 0x22) (eqb c 0x2F && eqb (get_or s (i + 1) 0) 0x2F) (letter c) (digit c)
         (double c (get_or s (i + 1) 0)) (single c) refl refl refl refl refl
-    go_on Fault d = scan_fault s i d
+    go_on None d = scan_fault s i d
 
 -- ---- the whole
 
 pub open_scan : (s : List ℕ) (i : ℕ) → open_from s i ≡ scan_from s i
 unfolding open_from open_step
 open_scan s =
-    from_ind (open_step s) (λ u r. r) Nothing (length s) (open_onward s) (λ i r. r ≡ scan_from s i)
+    from_ind (open_step s) (λ u r. r) None (length s) (open_onward s) (λ i r. r ≡ scan_from s i)
     (λ i r e. stops i r (token_at s i) refl e)
     (λ i j a r e p. p ∙ goes i j a (token_at s i) refl e)
   where
-    stops : (i : ℕ) (r : Found) (x : Lexeme) → token_at s i ≡ x → sought i x ≡ stop r → r ≡ scan_from s i
+    stops : (i : ℕ) (r : Option ℕ) (x : Lexeme) → token_at s i ≡ x → sought i x ≡ stop r → r ≡ scan_from s i
     stops i r (Token k z) h e = absurd (stop≢go (sym e))
-    stops i r NoEnd h e = let z : At i ≡ r = cc in sym z ∙ sym (scan_token s i ∙ ap (after s i) h)
-    stops i r End h e = let z : Nothing ≡ r = cc in sym z ∙ sym (scan_token s i ∙ ap (after s i) h)
+    stops i r NoEnd h e = let z : Some i ≡ r = cc in sym z ∙ sym (scan_token s i ∙ ap (after s i) h)
+    stops i r End h e = let z : None ≡ r = cc in sym z ∙ sym (scan_token s i ∙ ap (after s i) h)
 
     goes : (i j : ℕ) (a : Unit {0}) (x : Lexeme) → token_at s i ≡ x → sought i x ≡ go a j → scan_from s j ≡ scan_from s i
     goes i j a (Token k z) h e = let q : z ≡ j = cc in ap (scan_from s) (sym q) ∙ sym (scan_token s i ∙ ap (after s i) h)

@@ -13,8 +13,6 @@ use Rattle.dogwood_rules.specs.Token as R
 use Rattle.dogwood_rules.proofs.Cutting.{cut_step, cut_stop}
 use Rattle.dogwood_rules.proofs.Rules.{rule_of}
 use Rattle.utf8.specs.Walk.{stop, go}
-use Rattle.utf8.specs.declared.Found.{Found}
-use Rattle.utf8.specs.declared.Found.TheVariants.{At, Nothing}
 use Rattle.utf8.proofs.Walk.{from_ind, stop≢go}
 use Rattle.utf8.proofs.Reading.{Reads, reads_end, reads_more, reads_at, length-decode}
 use Rattle.dogwood_tokens.specs.declared.token.Lexeme.TheVariants.{Token, NoEnd, End}
@@ -24,6 +22,7 @@ use Rattle.dogwood_tokens.specs.Cursor.{tokens_at}
 use Rattle.dogwood_tokens.proofs.Tokens.{tokens_onward, open_onward}
 use Rattle.dogwood_tokens.proofs.Onwards.{reads-drop, length_parts}
 use Rattle.dogwood_tokens.proofs.Front.{lexeme_of, token-reads}
+use Rattle.std.specs.Prelude.{None, Option, Some}
 
 -- ---- one step, on both sides
 
@@ -83,28 +82,28 @@ tokens-reads s =
 
 -- ---- the string without end
 
-open_some : (l : ℕ) (cs : List ℕ) → 0 < length cs → open_at l cs ≡ At (l - byte_length cs)
+open_some : (l : ℕ) (cs : List ℕ) → 0 < length cs → open_at l cs ≡ Some (l - byte_length cs)
 open_some l [] h = absurd (omega arith)
 open_some l (c ∷ cs) h = refl
 
 pub open_reads : (s : List ℕ) (e i : ℕ) (cs : List ℕ) → Reads s i cs → i + byte_length cs ≡ e → open_from s i ≡ open_at e (tokenise cs).1
 unfolding open_from open_step tokenise cut cut_after
 open_reads s end =
-    from_ind (open_step s) (λ u r. r) Nothing (length s) (open_onward s) (λ i r. (cs : List ℕ) → Reads s i cs → i + byte_length cs ≡ end → r ≡ open_at end (tokenise cs).1)
+    from_ind (open_step s) (λ u r. r) None (length s) (open_onward s) (λ i r. (cs : List ℕ) → Reads s i cs → i + byte_length cs ≡ end → r ≡ open_at end (tokenise cs).1)
     (λ i r e cs rd h. stops i r e cs h (turn_of s rd))
     (λ i j a r e p cs rd h. goes i j a r e p cs h (turn_of s rd))
   where
-    stops : (i : ℕ) (r : Found) → sought i (token_at s i) ≡ stop r → (cs : List ℕ) → i + byte_length cs ≡ end → Turn s i cs → r ≡ open_at end (tokenise cs).1
+    stops : (i : ℕ) (r : Option ℕ) → sought i (token_at s i) ≡ stop r → (cs : List ℕ) → i + byte_length cs ≡ end → Turn s i cs → r ≡ open_at end (tokenise cs).1
     stops i r e cs h (turn_end n q) =
-        let z : Nothing ≡ r = cc in
+        let z : None ≡ r = cc in
         sym z ∙ ap (λ (l : List ℕ). open_at end (tokenise l).1) (sym n)
     stops i r e cs h (turn_open l n q) =
-        let z : At i ≡ r = cc in
+        let z : Some i ≡ r = cc in
         let y : i ≡ end - byte_length cs = omega arith in
-        sym z ∙ ap At y ∙ sym (open_some end cs l) ∙ ap (λ (x : List R.Token × List ℕ). open_at end x.1) (sym n)
+        sym z ∙ ap Some y ∙ sym (open_some end cs l) ∙ ap (λ (x : List R.Token × List ℕ). open_at end x.1) (sym n)
     stops i r e cs h (turn-token t rest n q rd b) = absurd (stop≢go (sym e ∙ ap (sought i) q))
 
-    goes : (i j : ℕ) (a : Unit {0}) (r : Found) → sought i (token_at s i) ≡ go a j → ((cs : List ℕ) → Reads s j cs → j + byte_length cs ≡ end → r ≡ open_at end (tokenise cs).1)
+    goes : (i j : ℕ) (a : Unit {0}) (r : Option ℕ) → sought i (token_at s i) ≡ go a j → ((cs : List ℕ) → Reads s j cs → j + byte_length cs ≡ end → r ≡ open_at end (tokenise cs).1)
         → (cs : List ℕ) → i + byte_length cs ≡ end → Turn s i cs → r ≡ open_at end (tokenise cs).1
     goes i j a r e p cs h (turn_end n q) = absurd (stop≢go (sym (ap (sought i) q) ∙ e))
     goes i j a r e p cs h (turn_open l n q) = absurd (stop≢go (sym (ap (sought i) q) ∙ e))

@@ -11,7 +11,6 @@ use Rattle.dogwood_rules.specs.Utf8.{decode, byte_length}
 use Rattle.dogwood_rules.specs.Token.{placed, token, tokenise}
 use Rattle.dogwood_rules.specs.Token as R
 use Rattle.utf8.specs.Walk.{stop, go}
-use Rattle.utf8.specs.declared.Decoded.{Decoded}
 use Rattle.utf8.proofs.Walk.{from_ind, stop≢go}
 use Rattle.utf8.proofs.Reading.{Reads, reads_end, reads_more, reads_at, length-decode}
 use Rattle.dogwood_tokens.specs.declared.token.Lexeme.{Lexeme}
@@ -24,6 +23,8 @@ use Rattle.dogwood_tokens.specs.Cursor.{given, step_of, next_of, Walk, walk_end,
 use Rattle.dogwood_tokens.proofs.Tokens.{tokens_onward}
 use Rattle.dogwood_tokens.proofs.Front.{lexeme_of, token-reads}
 use Rattle.dogwood_tokens.proofs.Seam.{Turn, turn_end, turn_open, turn-token, turn_of}
+use Rattle.std.specs.Prelude.{Option}
+use Rattle.utf8.specs.declared.Char.{Char}
 
 -- the step that the code makes of what stands at its place
 abbrev pub stepped : ℕ → Lexeme → Step
@@ -40,7 +41,7 @@ unfolding next_of token_at
 next_is s at {x} q = by (reads_at s at) ∙ ap (stepped at) q
   where
     by : {cs : List ℕ} → Reads s at cs → step_of at cs ≡ stepped at (token_at s at)
-    by (reads_end d) = sym (ap (λ (x : Decoded). stepped at (lexeme s at x)) d)
+    by (reads_end d) = sym (ap (λ (x : Option Char). stepped at (lexeme s at x)) d)
     by (reads_more {c} {cs} d r) = of_lexeme at (token (c ∷ cs)) ∙ ap (stepped at) (sym (token-reads s at c cs d r))
 
 -- ---- walking

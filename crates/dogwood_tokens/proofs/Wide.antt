@@ -6,11 +6,11 @@ use mathlib.Core.List.{List}
 use native.Mathlib.Omega.{arith}
 use borrow.Author.Tests.{le-leb, lt-leb, ne_eqb}
 use Rattle.dogwood_rules.specs.Token.{white, letter, digit}
-use Rattle.dogwood_scans.specs.declared.runs.Class.TheVariants.{Space, Other}
 use Rattle.dogwood_tokens.specs.declared.token.Lexeme.TheVariants.{Token}
 use Rattle.dogwood_scans.specs.Run.{run_end}
 use Rattle.dogwood_letters.specs.Symbol.{symbol_len}
 use Rattle.dogwood_tokens.specs.Token.{begins}
+use Rattle.dogwood_rules.specs.Token.{other}
 use Rattle.dogwood_letters.proofs.SymbolLaws.{single_big, double_big}
 
 digit_big : (c : ℕ) → 128 ≤ c → digit c ≡ false
@@ -29,11 +29,11 @@ letter_big c h =
     )
 
 module _ (s : List ℕ) (i c b : ℕ) where
-  pub wide_space : white c ≡ true → begins s i c b ≡ Token 0 (run_end Space s i)
+  pub wide_space : white c ≡ true → begins s i c b ≡ Token 0 (run_end white s i)
   unfolding begins
   wide_space t = simp t
 
-  pub wide_other : 128 ≤ c → white c ≡ false → begins s i c b ≡ Token 6 (run_end Other s i)
+  pub wide_other : 128 ≤ c → white c ≡ false → begins s i c b ≡ Token 6 (run_end other s i)
   unfolding begins symbol_len
   wide_other h t =
       simp (

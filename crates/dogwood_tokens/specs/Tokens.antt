@@ -1,10 +1,8 @@
 -- The tokens of a text, and its first string without end, step by step.
-use Rattle.std.specs.Prelude.{ℕ, ◌-◌, List, [], ◌∷◌, length}
+use Rattle.std.specs.Prelude.{ℕ, ◌-◌, List, [], ◌∷◌, length, None, Option, Some}
 use Rattle.dogwood_rules.specs.Utf8.{byte_length}
 use Rattle.dogwood_rules.specs.Token.{Placed, kind_number}
 use Rattle.utf8.specs.Walk.{Next, stop, go, from}
-use Rattle.utf8.specs.declared.Found.{Found}
-use Rattle.utf8.specs.declared.Found.TheVariants.{At, Nothing}
 use Rattle.dogwood_tokens.specs.declared.token.Lexeme.{Lexeme}
 use Rattle.dogwood_tokens.specs.declared.token.Lexeme.TheVariants.{Token, NoEnd, End}
 use Rattle.dogwood_tokens.specs.Token.{token_at}
@@ -20,9 +18,9 @@ abbrev pub tok : Placed → Tok
 tok p = record { kind = kind_number p.token.kind; start = p.start; end = p.stop }
 
 -- where what is left begins, in a text of l bytes
-abbrev pub open_at : ℕ → List ℕ → Found
-open_at l [] = Nothing
-open_at l (c ∷ cs) = At (l - byte_length (c ∷ cs))
+abbrev pub open_at : ℕ → List ℕ → Option ℕ
+open_at l [] = None
+open_at l (c ∷ cs) = Some (l - byte_length (c ∷ cs))
 
 abbrev pub listed : ℕ → Lexeme → Next Tok (List Tok)
 listed i (Token k e) = go (record { kind = k; start = i; end = e }) e
@@ -37,15 +35,15 @@ unfoldable pub tokens_from : List ℕ → ℕ → List Tok
 unfolding token_step
 tokens_from s i = from (token_step s) ◌∷◌ [] (length s) i
 
-abbrev pub sought : ℕ → Lexeme → Next (Unit {0}) Found
+abbrev pub sought : ℕ → Lexeme → Next (Unit {0}) (Option ℕ)
 sought i (Token k e) = go tt e
-sought i NoEnd = stop (At i)
-sought i End = stop Nothing
+sought i NoEnd = stop (Some i)
+sought i End = stop None
 
-unfoldable pub open_step : List ℕ → ℕ → Next (Unit {0}) Found
+unfoldable pub open_step : List ℕ → ℕ → Next (Unit {0}) (Option ℕ)
 open_step s i = sought i (token_at s i)
 
 -- the opening quote of the first string without end from i on
-unfoldable pub open_from : List ℕ → ℕ → Found
+unfoldable pub open_from : List ℕ → ℕ → Option ℕ
 unfolding open_step
-open_from s i = from (open_step s) (λ u r. r) Nothing (length s) i
+open_from s i = from (open_step s) (λ u r. r) None (length s) i

@@ -5,18 +5,18 @@ use native.Mathlib.Omega.{arith}
 use lib.ListN.{length, take, drop}
 use Rattle.dogwood_rules.specs.Utf8.{decode, mark_of, text_of}
 use Rattle.utf8.specs.Told.{left_at}
-use Rattle.utf8.specs.declared.Found.{Found}
 use Rattle.utf8.proofs.Mark.{mark_inside, length_text, text_of_lem}
 use Rattle.dogwood_syntax.proofs.Promise.{left_inside}
 use Rattle.dogwood_reader.specs.declared.State.{State}
 use Rattle.dogwood_reader.proofs.Places.{long_start, bad_start, good_start}
 use Rattle.dogwood_reader.proofs.start_at.Goals as goal
+use Rattle.std.specs.Prelude.{Option}
 
 abbrev refusal-of : ℕ → State
 refusal-of place = record { number = 12; kind = 0; start = place; end = place }
 
 -- what was found in the text
-found : (src : List ℕ) (m : ℕ) (r : Found) → m ≡ length (mark_of src)
+found : (src : List ℕ) (m : ℕ) (r : Option ℕ) → m ≡ length (mark_of src)
     → r ≡ left_at (length (take (length src - m) (drop m src))) (decode (take (length src - m) (drop m src))).1
     → left_at (length (text_of src)) (decode (text_of src)).1 ≡ r
 found src m r e q = ap (λ (l : List ℕ). left_at (length l) (decode l).1) (sym (text_of_lem src m e)) ∙ sym q
@@ -31,10 +31,10 @@ pub slice_bounds-first_bad-start : goal.slice_bounds-first_bad-start
 slice_bounds-first_bad-start c = omega (arith, mark_inside c.args.src.now, c.split_bom-mark.ensures)
 
 pub overflow_add-mark : goal.overflow_add-mark
-overflow_add-mark c = omega (arith, mark_inside c.args.src.now, length_text c.args.src.now, c.split_bom-mark.ensures, left_inside (length (text_of c.args.src.now)) (decode (text_of c.args.src.now)).1 _ (found c.args.src.now c.split_bom-mark.result c.first_bad.result c.split_bom-mark.ensures c.first_bad.ensures ∙ c.in-At.is))
+overflow_add-mark c = omega (arith, mark_inside c.args.src.now, length_text c.args.src.now, c.split_bom-mark.ensures, left_inside (length (text_of c.args.src.now)) (decode (text_of c.args.src.now)).1 _ (found c.args.src.now c.split_bom-mark.result c.first_bad.result c.split_bom-mark.ensures c.first_bad.ensures ∙ c.in-Some.is))
 
-pub returns-in-At : goal.returns-in-At
-returns-in-At c = c.refusal-in-At.ensures ∙ ap (λ (m : ℕ). refusal-of (m + c.in-At.i)) c.split_bom-mark.ensures ∙ sym (bad_start c.args.src.now c.if-src-gt-LONGEST.false _ (found c.args.src.now c.split_bom-mark.result c.first_bad.result c.split_bom-mark.ensures c.first_bad.ensures ∙ c.in-At.is))
+pub returns-in-Some : goal.returns-in-Some
+returns-in-Some c = c.refusal-in-Some.ensures ∙ ap (λ (m : ℕ). refusal-of (m + c.in-Some.i)) c.split_bom-mark.ensures ∙ sym (bad_start c.args.src.now c.if-src-gt-LONGEST.false _ (found c.args.src.now c.split_bom-mark.result c.first_bad.result c.split_bom-mark.ensures c.first_bad.ensures ∙ c.in-Some.is))
 
-pub returns-in-Nothing : goal.returns-in-Nothing
-returns-in-Nothing c = c.state_at.ensures ∙ good_start c.args.src.now c.if-src-gt-LONGEST.false (found c.args.src.now c.split_bom-mark.result c.first_bad.result c.split_bom-mark.ensures c.first_bad.ensures ∙ c.in-Nothing.is)
+pub returns-in-None : goal.returns-in-None
+returns-in-None c = c.state_at.ensures ∙ good_start c.args.src.now c.if-src-gt-LONGEST.false (found c.args.src.now c.split_bom-mark.result c.first_bad.result c.split_bom-mark.ensures c.first_bad.ensures ∙ c.in-None.is)

@@ -5,14 +5,14 @@ use native.Mathlib.Omega.{arith}
 use lib.ListN.{length, take, drop}
 use Rattle.dogwood_rules.specs.Utf8.{decode, mark_of, text_of}
 use Rattle.utf8.specs.Told.{left_at}
-use Rattle.utf8.specs.declared.Found.{Found}
 use Rattle.utf8.proofs.Mark.{mark_inside, length_text, text_of_lem}
 use Rattle.dogwood_syntax.specs.Answers.{answer, table_after}
 use Rattle.dogwood_syntax.proofs.Promise.{long_kept, bad_kept, text_kept, left_inside}
 use Rattle.dogwood_syntax.proofs.tokenizing.tokenize.Goals as goal
+use Rattle.std.specs.Prelude.{Option}
 
 -- what was found in the text
-found : (src : List ℕ) (m : ℕ) (r : Found) → m ≡ length (mark_of src)
+found : (src : List ℕ) (m : ℕ) (r : Option ℕ) → m ≡ length (mark_of src)
     → r ≡ left_at (length (take (length src - m) (drop m src))) (decode (take (length src - m) (drop m src))).1
     → left_at (length (text_of src)) (decode (text_of src)).1 ≡ r
 found src m r e q = ap (λ (l : List ℕ). left_at (length l) (decode l).1) (sym (text_of_lem src m e)) ∙ sym q
@@ -27,7 +27,7 @@ pub slice_bounds-first_bad-start : goal.slice_bounds-first_bad-start
 slice_bounds-first_bad-start c = omega (arith, mark_inside c.args.src.now, c.split_bom-start.ensures)
 
 pub overflow_add-result : goal.overflow_add-result
-overflow_add-result c = omega (arith, mark_inside c.args.src.now, length_text c.args.src.now, c.split_bom-start.ensures, left_inside (length (text_of c.args.src.now)) (decode (text_of c.args.src.now)).1 _ (found c.args.src.now c.split_bom-start.result c.first_bad.result c.split_bom-start.ensures c.first_bad.ensures ∙ c.in-At.is))
+overflow_add-result c = omega (arith, mark_inside c.args.src.now, length_text c.args.src.now, c.split_bom-start.ensures, left_inside (length (text_of c.args.src.now)) (decode (text_of c.args.src.now)).1 _ (found c.args.src.now c.split_bom-start.result c.first_bad.result c.split_bom-start.ensures c.first_bad.ensures ∙ c.in-Some.is))
 
 pub slice_bounds-tokenize_text-count : goal.slice_bounds-tokenize_text-count
 slice_bounds-tokenize_text-count c = omega (arith, mark_inside c.args.src.now, c.split_bom-start.ensures)
@@ -35,14 +35,14 @@ slice_bounds-tokenize_text-count c = omega (arith, mark_inside c.args.src.now, c
 pub slice_bounds-tokenize_text-start : goal.slice_bounds-tokenize_text-start
 slice_bounds-tokenize_text-start c = omega (arith, mark_inside c.args.src.now, c.split_bom-start.ensures)
 
-pub returns-in-At : goal.returns-in-At
-returns-in-At c =
+pub returns-in-Some : goal.returns-in-Some
+returns-in-Some c =
     simp c.split_bom-start.ensures
-    (bad_kept c.args.src.now c.args.table.now c.if-src-gt-LONGEST.false _ (found c.args.src.now c.split_bom-start.result c.first_bad.result c.split_bom-start.ensures c.first_bad.ensures ∙ c.in-At.is))
+    (bad_kept c.args.src.now c.args.table.now c.if-src-gt-LONGEST.false _ (found c.args.src.now c.split_bom-start.result c.first_bad.result c.split_bom-start.ensures c.first_bad.ensures ∙ c.in-Some.is))
 
-pub returns-in-Nothing : goal.returns-in-Nothing
-returns-in-Nothing c =
+pub returns-in-None : goal.returns-in-None
+returns-in-None c =
     let e = text_of_lem c.args.src.now c.split_bom-start.result c.split_bom-start.ensures in
-    text_kept c.args.src.now c.args.table.now c.if-src-gt-LONGEST.false (found c.args.src.now c.split_bom-start.result c.first_bad.result c.split_bom-start.ensures c.first_bad.ensures ∙ c.in-Nothing.is)
+    text_kept c.args.src.now c.args.table.now c.if-src-gt-LONGEST.false (found c.args.src.now c.split_bom-start.result c.first_bad.result c.split_bom-start.ensures c.first_bad.ensures ∙ c.in-None.is)
     c.tokenize_text.result (c.tokenize_text.ensures.value ∙ ap (λ (l : List ℕ). answer l (length c.args.table.now)) e)
     c.tokenize_text.new.table (c.tokenize_text.ensures.table_after ∙ ap (λ (l : List ℕ). table_after l c.args.table.now) e)

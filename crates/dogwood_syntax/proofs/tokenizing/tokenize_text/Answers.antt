@@ -7,29 +7,29 @@ use Rattle.dogwood_tokens.specs.Cursor.{tokens_at}
 use Rattle.dogwood_syntax.proofs.Filling.{short_some, short_none, length_words, sets_front, answer_open, answer_small, answer_done, table_of}
 use Rattle.dogwood_syntax.proofs.tokenizing.tokenize_text.Goals as goal
 
-pub returns-in-At : goal.returns-in-At
-returns-in-At c =
+pub returns-in-Some : goal.returns-in-Some
+returns-in-Some c =
     let s = c.args.text.now in
     let t = c.args.table.now in
-    let o = sym c.first_open.ensures ∙ c.in-At.is in
+    let o = sym c.first_open.ensures ∙ c.in-Some.is in
     let e = answer_open s (length t) o in
     record { value = sym e; table_after = sym (table_of s t e) }
 
-pub returns-in-At-shortage : goal.returns-in-At-shortage
-returns-in-At-shortage c =
+pub returns-in-Some-shortage : goal.returns-in-Some-shortage
+returns-in-Some-shortage c =
     let s = c.args.text.now in
     let t = c.args.table.now in
-    let o = sym c.first_open.ensures ∙ c.in-Nothing.is in
-    let q = short_some (length t / 3) (length (tokens_at s 0)) _ (sym c.shortage.ensures ∙ c.in-At-shortage.is) in
+    let o = sym c.first_open.ensures ∙ c.in-None.is in
+    let q = short_some (length t / 3) (length (tokens_at s 0)) _ (sym c.shortage.ensures ∙ c.in-Some-shortage.is) in
     let e = answer_small s (length t) o q.1 (omega arith) in
     record { value = sym e; table_after = sym (table_of s t e) }
 
-pub returns-in-Nothing-shortage : goal.returns-in-Nothing-shortage
-returns-in-Nothing-shortage c =
+pub returns-in-None-shortage : goal.returns-in-None-shortage
+returns-in-None-shortage c =
     let s = c.args.text.now in
     let t = c.args.table.now in
-    let o = sym c.first_open.ensures ∙ c.in-Nothing.is in
-    let q = short_none (length t / 3) (length (tokens_at s 0)) (sym c.shortage.ensures ∙ c.in-Nothing-shortage.is) in
+    let o = sym c.first_open.ensures ∙ c.in-None.is in
+    let q = short_none (length t / 3) (length (tokens_at s 0)) (sym c.shortage.ensures ∙ c.in-None-shortage.is) in
     let w = length_words (tokens_at s 0) in
     let f = c.fill.ensures in
     let e = answer_done s (length t) o (sym f.total) (omega (arith, f.total)) in

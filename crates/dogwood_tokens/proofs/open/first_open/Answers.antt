@@ -20,22 +20,22 @@ pub returns-in_default : goal.returns-in_default
 returns-in_default c = sym (byte_open c.args.s.now c.loop-i.i c.loop-i-test.true c.if-b-eq34.true (sym c.string_end.ensures ∙ c.in_default.is)) ∙ c.loop-i.invariant ∙ sym (open_scan c.args.s.now 0)
 
 pub loop-i-smaller-then-b-eq34 : goal.loop-i-smaller-then-b-eq34
-loop-i-smaller-then-b-eq34 c = omega (arith, string_inside c.args.s.now (c.loop-i.i + 1) _ (sym c.string_end.ensures ∙ c.in-At.is))
+loop-i-smaller-then-b-eq34 c = omega (arith, string_inside c.args.s.now (c.loop-i.i + 1) _ (sym c.string_end.ensures ∙ c.in-Some.is))
 
 pub loop-i-preserved-then-b-eq34 : goal.loop-i-preserved-then-b-eq34
-loop-i-preserved-then-b-eq34 c = sym (byte_closed c.args.s.now c.loop-i.i c.loop-i-test.true c.if-b-eq34.true (sym c.string_end.ensures ∙ c.in-At.is)) ∙ c.loop-i.invariant
+loop-i-preserved-then-b-eq34 c = sym (byte_closed c.args.s.now c.loop-i.i c.loop-i-test.true c.if-b-eq34.true (sym c.string_end.ensures ∙ c.in-Some.is)) ∙ c.loop-i.invariant
 
 pub returns-in_default-decode : goal.returns-in_default-decode
 returns-in_default-decode c = sym (scan_fault c.args.s.now c.loop-i.i (sym c.decode.ensures ∙ c.in_default-decode.is)) ∙ c.loop-i.invariant ∙ sym (open_scan c.args.s.now 0)
 
 pub overflow_add-i-then-b-ge128 : goal.overflow_add-i-then-b-ge128
-overflow_add-i-then-b-ge128 c = omega (arith, inside c.args.s.now c.loop-i.i (sym c.decode.ensures ∙ c.in-Char.is))
+overflow_add-i-then-b-ge128 c = omega (arith, inside c.args.s.now c.loop-i.i (sym c.decode.ensures ∙ c.in-Some.is))
 
 pub loop-i-smaller-then-b-ge128 : goal.loop-i-smaller-then-b-ge128
-loop-i-smaller-then-b-ge128 c = omega (arith, inside c.args.s.now c.loop-i.i (sym c.decode.ensures ∙ c.in-Char.is))
+loop-i-smaller-then-b-ge128 c = omega (arith, inside c.args.s.now c.loop-i.i (sym c.decode.ensures ∙ c.in-Some.is))
 
 pub loop-i-preserved-then-b-ge128 : goal.loop-i-preserved-then-b-ge128
-loop-i-preserved-then-b-ge128 c = sym (wide_past c.args.s.now c.loop-i.i c.loop-i-test.true (sym c.decode.ensures ∙ c.in-Char.is) c.if-b-ge128.true) ∙ c.loop-i.invariant
+loop-i-preserved-then-b-ge128 c = sym (wide_past c.args.s.now c.loop-i.i c.loop-i-test.true (sym c.decode.ensures ∙ c.in-Some.is) c.if-b-ge128.true) ∙ c.loop-i.invariant
 
 pub overflow_add-i-then-b-eq47 : goal.overflow_add-i-then-b-eq47
 overflow_add-i-then-b-eq47 c = omega arith

@@ -14,7 +14,7 @@ returns-in_default c = simp (← c.is_space.ensures, c.if-is_space.false, eq-eqb
 
 pub returns-then-code-eq34 : goal.returns-then-code-eq34
 unfolding begins
-returns-then-code-eq34 c = simp (← c.is_space.ensures, c.if-is_space.false, eq-eqb _ _ c.if-code-eq34.true, ← c.string_end.ensures, c.in-At.is)
+returns-then-code-eq34 c = simp (← c.is_space.ensures, c.if-is_space.false, eq-eqb _ _ c.if-code-eq34.true, ← c.string_end.ensures, c.in-Some.is)
 
 pub returns-then-code-next : goal.returns-then-code-next
 unfolding begins
