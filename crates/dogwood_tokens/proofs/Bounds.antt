@@ -17,13 +17,15 @@ use Rattle.dogwood_tokens.specs.declared.token.Lexeme.TheVariants.{Token}
 use Rattle.dogwood_rules.specs.Token.{white, letter, digit, wordly, single, double, line_end, other}
 use Rattle.dogwood_scans.specs.Run.{past_one, run_step, run_end, escaped, quoted, string_step, string_end}
 use Rattle.dogwood_letters.specs.Symbol.{symbol_len}
-use Rattle.dogwood_tokens.specs.Token.{string_to, begins, lexeme, token_at}
+use Rattle.dogwood_tokens.specs.Token.{string_to, begins, lexeme, token_at, symbol_or}
 use Rattle.dogwood_scans.proofs.Run.{run_onward, run_on, string_onward}
 use Rattle.dogwood_letters.proofs.SymbolLaws.{double-zero}
 use Rattle.std.specs.Prelude.{None, Option, Some}
 use Rattle.utf8.specs.declared.Char.{Char}
 use Rattle.dogwood_letters.specs.Promises.{in_line}
 use Rattle.utf8.specs.Char.{char_of}
+use Rattle.dogwood_rows.specs.declared.kind.Kind.{Kind}
+use Rattle.dogwood_rows.specs.declared.kind.Kind.TheVariants as K
 
 -- ---- a run
 
@@ -36,7 +38,7 @@ run_stop k s i r e = by (decode_at s i) e
     in_class_lem false n e = cc
 
     by : (d : Option Char) → past_one k i d ≡ stop r → r ≡ i
-    by (char_of c n) e = in_class_lem (k c) n e
+    by (Some x) e = let c = x.code in let n = x.len in in_class_lem (k c) n e
     by None e = cc
 
 run_bounds : (k : ℕ → Bool) (s : List ℕ) (i : ℕ) → i ≤ length s → (i ≤ run_end k s i) × (run_end k s i ≤ length s)
@@ -67,7 +69,7 @@ string_inside s i =
     never e h = let z : ◌≡◌ {A = ℕ} 0 1 = cc in omega arith
 
     esc : (m : ℕ) (d : Option Char) (r : Option ℕ) → escaped m d ≡ stop r → r ≡ None
-    esc m (char_of c n) r g = absurd (stop≢go (sym g))
+    esc m (Some x) r g = absurd (stop≢go (sym g))
     esc m None r g = cc
 
     tests : (i c n : ℕ) (t u : Bool) (r : Option ℕ) (e : ℕ) → decode_at s i ≡ char_of c n
@@ -77,7 +79,7 @@ string_inside s i =
     tests i c n false false r e d g h = absurd (stop≢go (sym g))
 
     by : (i : ℕ) (d : Option Char) (r : Option ℕ) (e : ℕ) → decode_at s i ≡ d → quoted s i d ≡ stop r → r ≡ Some e → (i < e) × (e ≤ length s)
-    by i (char_of c n) r e d g h = tests i c n (eqb c 0x22) (eqb c 0x5C) r e d g h
+    by i (Some x) r e d g h = let c = x.code in let n = x.len in tests i c n (eqb c 0x22) (eqb c 0x5C) r e d g h
     by i None r e d g h = absurd (never e cc)
 
     stops : (i : ℕ) (r : Option ℕ) → string_step s i ≡ stop r → (e : ℕ) → r ≡ Some e → (i < e) × (e ≤ length s)
@@ -96,42 +98,42 @@ or_left : (a b : Bool) → a ≡ true → (a || b) ≡ true
 or_left true b e = refl
 or_left false b e = absurd (false≢true e)
 
-module _ (s : List ℕ) (i c n : ℕ) (d : decode_at s i ≡ char_of c n) (k e : ℕ) where
-  as_end : (m x : ℕ) → Token m x ≡ Token k e → (i < x) × (x ≤ length s) → (i < e) × (e ≤ length s)
+module _ (s : List ℕ) (i c n : ℕ) (d : decode_at s i ≡ char_of c n) (k : Kind) (e : ℕ) where
+  as_end : (m : Kind) (x : ℕ) → Token m x ≡ Token k e → (i < x) × (x ≤ length s) → (i < e) × (e ≤ length s)
   as_end m x q h = let z : x ≡ e = cc in omega arith
 
   string_end_lem : (f : Option ℕ) → string_end s (i + 1) ≡ f → string_to f ≡ Token k e → (i < e) × (e ≤ length s)
-  string_end_lem (Some x) h q = let p = string_inside s (i + 1) x h in as_end 2 x q (omega arith)
+  string_end_lem (Some x) h q = let p = string_inside s (i + 1) x h in as_end K.String x q (omega arith)
   string_end_lem None h q = let z : ◌≡◌ {A = ℕ} 0 1 = cc in absurd (omega arith)
 
   by : (t₁ t₂ t₃ t₄ t₅ t₆ t₇ : Bool) → white c ≡ t₁ → eqb c 0x22 ≡ t₂ → (eqb c 0x2F && eqb (get_or s (i + 1) 0) 0x2F) ≡ t₃
       → letter c ≡ t₄ → digit c ≡ t₅ → double c (get_or s (i + 1) 0) ≡ t₆ → single c ≡ t₇
-      → cond t₁ (Token 0 (run_end white s i))
+      → cond t₁ (Token K.Whitespace (run_end white s i))
       (cond t₂ (string_to (string_end s (i + 1)))
-      (cond t₃ (Token 1 (run_end in_line s i))
-      (cond t₄ (Token 3 (run_end wordly s i))
-      (cond t₅ (Token 4 (run_end digit s i))
-      (cond (ltb 0 (cond t₆ 2 (cond t₇ 1 0))) (Token 5 (i + cond t₆ 2 (cond t₇ 1 0)))
-      (Token 6 (run_end other s i))))))) ≡ Token k e
+      (cond t₃ (Token K.Comment (run_end in_line s i))
+      (cond t₄ (Token K.Identifier (run_end wordly s i))
+      (cond t₅ (Token K.Number (run_end digit s i))
+      (symbol_or s i (cond t₆ (Some 2) (cond t₇ (Some 1) None))))))) ≡ Token k e
       → (i < e) × (e ≤ length s)
   unfolding wordly other line_end
-  by true t₂ t₃ t₄ t₅ t₆ t₇ h₁ h₂ h₃ h₄ h₅ h₆ h₇ q = as_end 0 (run_end white s i) q (run_some white s i d h₁)
+  by true t₂ t₃ t₄ t₅ t₆ t₇ h₁ h₂ h₃ h₄ h₅ h₆ h₇ q = as_end K.Whitespace (run_end white s i) q (run_some white s i d h₁)
   by false true t₃ t₄ t₅ t₆ t₇ h₁ h₂ h₃ h₄ h₅ h₆ h₇ q = string_end_lem (string_end s (i + 1)) refl q
   by false false true t₄ t₅ t₆ t₇ h₁ h₂ h₃ h₄ h₅ h₆ h₇ q =
-      as_end 1 (run_end in_line s i) q (run_some in_line s i d (simp (eqb-true c 0x2F (and_true _ _ h₃).0)))
-  by false false false true t₅ t₆ t₇ h₁ h₂ h₃ h₄ h₅ h₆ h₇ q = as_end 3 (run_end wordly s i) q (run_some wordly s i d (or_left (letter c) (digit c) h₄))
-  by false false false false true t₆ t₇ h₁ h₂ h₃ h₄ h₅ h₆ h₇ q = as_end 4 (run_end digit s i) q (run_some digit s i d h₅)
-  by false false false false false true t₇ h₁ h₂ h₃ h₄ h₅ h₆ h₇ q = let p = double_inside s c (i + 1) h₆ in as_end 5 (i + 2) q (omega arith)
-  by false false false false false false true h₁ h₂ h₃ h₄ h₅ h₆ h₇ q = let p = inside s i d in as_end 5 (i + 1) q (omega arith)
+      as_end K.Comment (run_end in_line s i) q (run_some in_line s i d (simp (eqb-true c 0x2F (and_true _ _ h₃).0)))
+  by false false false true t₅ t₆ t₇ h₁ h₂ h₃ h₄ h₅ h₆ h₇ q = as_end K.Identifier (run_end wordly s i) q (run_some wordly s i d (or_left (letter c) (digit c) h₄))
+  by false false false false true t₆ t₇ h₁ h₂ h₃ h₄ h₅ h₆ h₇ q = as_end K.Number (run_end digit s i) q (run_some digit s i d h₅)
+  by false false false false false true t₇ h₁ h₂ h₃ h₄ h₅ h₆ h₇ q = let p = double_inside s c (i + 1) h₆ in as_end K.Symbol (i + 2) q (omega arith)
+  by false false false false false false true h₁ h₂ h₃ h₄ h₅ h₆ h₇ q = let p = inside s i d in as_end K.Symbol (i + 1) q (omega arith)
   by false false false false false false false h₁ h₂ h₃ h₄ h₅ h₆ h₇ q =
-      as_end 6 (run_end other s i) q (run_some other s i d (simp (h₁, h₂, h₄, h₅, h₇)))
+      as_end K.Other (run_end other s i) q (run_some other s i d (simp (h₁, h₂, h₄, h₅, h₇)))
 
-pub token_inside : (s : List ℕ) (i : ℕ) {k e : ℕ} → token_at s i ≡ Token k e → (i < e) × (e ≤ length s)
+pub token_inside : (s : List ℕ) (i : ℕ) {k : Kind} {e : ℕ} → token_at s i ≡ Token k e → (i < e) × (e ≤ length s)
 unfolding token_at begins symbol_len
 token_inside s i {k} {e} q = go_on (decode_at s i) refl q
   where
     go_on : (x : Option Char) → decode_at s i ≡ x → lexeme s i x ≡ Token k e → (i < e) × (e ≤ length s)
-    go_on (char_of c n) d q =
+    go_on (Some x) d q =
+        let c = x.code in let n = x.len in
         by s i c n d k e (white c) (eqb c 0x22) (eqb c 0x2F && eqb (get_or s (i + 1) 0) 0x2F) (letter c) (digit c)
         (double c (get_or s (i + 1) 0)) (single c) refl refl refl refl refl refl refl q
     go_on None d q = let z : ◌≡◌ {A = ℕ} 0 1 = cc in absurd (omega arith)

@@ -11,7 +11,7 @@ use lib.ListN.{take, get_or}
 use lib.Dec.{eqb, ltb}
 use Rattle.dogwood_rules.specs.Basic.{run_length}
 use Rattle.dogwood_rules.specs.Utf8.{size, byte_length}
-use Rattle.dogwood_rules.specs.Token.{white, letter, digit, wordly, single, double, line_end, other, next, closing, piece, string_piece, token, kind_number, Whitespace, Comment, Identifier, Number}
+use Rattle.dogwood_rules.specs.Token.{white, letter, digit, wordly, single, double, line_end, other, next, closing, piece, string_piece, token, Whitespace, Comment, Identifier, Number}
 use Rattle.dogwood_rules.specs.Token as R
 use Rattle.dogwood_rules.proofs.Runs.{run_more}
 use Rattle.utf8.specs.Utf8.{decode_at}
@@ -21,16 +21,19 @@ use Rattle.dogwood_tokens.specs.declared.token.Lexeme.{Lexeme}
 use Rattle.dogwood_tokens.specs.declared.token.Lexeme.TheVariants.{Token, NoEnd}
 use Rattle.dogwood_scans.specs.Run.{run_end, string_end}
 use Rattle.dogwood_letters.specs.Symbol.{symbol_len}
-use Rattle.dogwood_tokens.specs.Token.{string_to, begins, lexeme, token_at}
+use Rattle.dogwood_tokens.specs.Token.{string_to, begins, lexeme, token_at, symbol_or}
 use Rattle.dogwood_letters.proofs.SymbolLaws.{eqb_sym, double-zero, double_big, double-next, single_big}
 use Rattle.dogwood_tokens.proofs.Onwards.{run_reads, string_reads, ended}
 use Rattle.dogwood_letters.specs.Promises.{in_line}
 use Rattle.utf8.specs.Char.{char_of}
+use Rattle.dogwood_rows.specs.Kinds.{kind_of}
+use Rattle.dogwood_rows.specs.declared.kind.Kind.TheVariants as K
+use Rattle.std.specs.Prelude.{Some, None}
 
 -- the token at the place i, from what the rules give
 abbrev pub lexeme_of : ℕ → Option (R.Token × ℕ) → Lexeme
 lexeme_of i none = NoEnd
-lexeme_of i (some p) = Token (kind_number p.0.kind) (i + byte_length p.0.text)
+lexeme_of i (some p) = Token (kind_of p.0.kind) (i + byte_length p.0.text)
 
 -- ---- ASCII
 
@@ -107,22 +110,21 @@ module _ (s : List ℕ) (i c : ℕ) (cs : List ℕ) (d : decode_at s i ≡ char_
   run_token k h = run_reads k s (reads_more d r) ∙ ap (λ (n : ℕ). i + byte_length (take n (c ∷ cs))) (run_more k c cs h)
 
   string_token : c < 128 → (o : Option ℕ) → string_to (ended (i + 1) cs o) ≡ lexeme_of i (string_piece c cs o)
-  unfolding string_piece piece kind_number byte_length
+  unfolding string_piece piece byte_length
   string_token h none = refl
   string_token h (some n) =
       let z = size_ascii c h in
       let q : i + 1 + byte_length (take n cs) ≡ i + (size c + byte_length (take n cs)) = omega arith in
-      ap (Token 2) q
+      ap (Token K.String) q
 
   by : (t₁ t₂ t₃ t₄ t₅ t₆ t₇ : Bool) → white c ≡ t₁ → eqb c 34 ≡ t₂ → eqb c 47 && next (eqb 47) cs ≡ t₃ → letter c ≡ t₄ → digit c ≡ t₅
       → next (double c) cs ≡ t₆ → single c ≡ t₇
-      → cond t₁ (Token 0 (run_end white s i))
+      → cond t₁ (Token K.Whitespace (run_end white s i))
       (cond t₂ (string_to (string_end s (i + 1)))
-      (cond t₃ (Token 1 (run_end in_line s i))
-      (cond t₄ (Token 3 (run_end wordly s i))
-      (cond t₅ (Token 4 (run_end digit s i))
-      (cond (ltb 0 (cond t₆ 2 (cond t₇ 1 0))) (Token 5 (i + cond t₆ 2 (cond t₇ 1 0)))
-      (Token 6 (run_end other s i)))))))
+      (cond t₃ (Token K.Comment (run_end in_line s i))
+      (cond t₄ (Token K.Identifier (run_end wordly s i))
+      (cond t₅ (Token K.Number (run_end digit s i))
+      (symbol_or s i (cond t₆ (Some 2) (cond t₇ (Some 1) None)))))))
       ≡ lexeme_of i
       (if t₁ then piece Whitespace c cs (run_length white cs)
       else if t₂ then string_piece c cs (closing false cs)
@@ -132,18 +134,18 @@ module _ (s : List ℕ) (i c : ℕ) (cs : List ℕ) (d : decode_at s i ≡ char_
       else if t₆ then piece R.Symbol c cs 1
       else if t₇ then piece R.Symbol c cs 0
       else piece R.Other c cs (run_length other cs))
-  unfolding piece kind_number
-  by true t₂ t₃ t₄ t₅ t₆ t₇ h₁ h₂ h₃ h₄ h₅ h₆ h₇ = ap (Token 0) (run_token white h₁)
+  unfolding piece
+  by true t₂ t₃ t₄ t₅ t₆ t₇ h₁ h₂ h₃ h₄ h₅ h₆ h₇ = ap (Token K.Whitespace) (run_token white h₁)
   by false true t₃ t₄ t₅ t₆ t₇ h₁ h₂ h₃ h₄ h₅ h₆ h₇ =
       let q = eqb-true c 34 h₂ in
       let u : c < 128 = omega arith in
       ap string_to (string_reads s (behind u)) ∙ string_token u (closing false cs)
-  by false false true t₄ t₅ t₆ t₇ h₁ h₂ h₃ h₄ h₅ h₆ h₇ = ap (Token 1) (run_token in_line (slash_in c (eqb-true c 47 (and_true _ (next (eqb 47) cs) h₃).0)))
-  by false false false true t₅ t₆ t₇ h₁ h₂ h₃ h₄ h₅ h₆ h₇ = ap (Token 3) (run_token wordly (letter_in c h₄))
-  by false false false false true t₆ t₇ h₁ h₂ h₃ h₄ h₅ h₆ h₇ = ap (Token 4) (run_token digit h₅)
-  by false false false false false true t₇ h₁ h₂ h₃ h₄ h₅ h₆ h₇ = ap (λ (n : ℕ). Token 5 (i + n)) (sym (double-size c cs h₆))
-  by false false false false false false true h₁ h₂ h₃ h₄ h₅ h₆ h₇ = ap (λ (n : ℕ). Token 5 (i + n)) (sym (single-size c h₇))
-  by false false false false false false false h₁ h₂ h₃ h₄ h₅ h₆ h₇ = ap (Token 6) (run_token other (other_in c h₁ h₂ h₄ h₅ h₇))
+  by false false true t₄ t₅ t₆ t₇ h₁ h₂ h₃ h₄ h₅ h₆ h₇ = ap (Token K.Comment) (run_token in_line (slash_in c (eqb-true c 47 (and_true _ (next (eqb 47) cs) h₃).0)))
+  by false false false true t₅ t₆ t₇ h₁ h₂ h₃ h₄ h₅ h₆ h₇ = ap (Token K.Identifier) (run_token wordly (letter_in c h₄))
+  by false false false false true t₆ t₇ h₁ h₂ h₃ h₄ h₅ h₆ h₇ = ap (Token K.Number) (run_token digit h₅)
+  by false false false false false true t₇ h₁ h₂ h₃ h₄ h₅ h₆ h₇ = ap (λ (n : ℕ). Token K.Symbol (i + n)) (sym (double-size c cs h₆))
+  by false false false false false false true h₁ h₂ h₃ h₄ h₅ h₆ h₇ = ap (λ (n : ℕ). Token K.Symbol (i + n)) (sym (single-size c h₇))
+  by false false false false false false false h₁ h₂ h₃ h₄ h₅ h₆ h₇ = ap (Token K.Other) (run_token other (other_in c h₁ h₂ h₄ h₅ h₇))
 
   pub token-reads : token_at s i ≡ lexeme_of i (token (c ∷ cs))
   unfolding token_at begins symbol_len token

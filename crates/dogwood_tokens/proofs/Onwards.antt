@@ -3,7 +3,7 @@ use Prim.Native.Nat.{ℕ, zero, suc, ◌+◌}
 use mathlib.Core.Path.{◌≡◌, refl, sym, ap, ◌∙◌, subst}
 use mathlib.Core.Bool.{Bool, true, false}
 use mathlib.Core.List.{List, [], ◌∷◌}
-use mathlib.Core.Option.{Option, none, some}
+use mathlib.Core.Option.{Option as Maybe, none, some}
 use native.Mathlib.Omega.{arith}
 use native.Mathlib.Nat.{add-zero}
 use borrow.Author.Tests.{eqb-true, eqb-false}
@@ -46,11 +46,11 @@ run_reads k s {i} (reads_more {c} {cs} d r) = by (run_reads k s r) (k c) refl
     by ih false h = run_off k s i d h ∙ sym (add-zero i) ∙ ap (λ (n : ℕ). i + byte_length (take n (c ∷ cs))) (sym (run_none k c cs h))
 
 -- where a string ends, from the number of its characters
-abbrev pub ended : ℕ → List ℕ → Option ℕ → Option ℕ
+abbrev pub ended : ℕ → List ℕ → Maybe ℕ → Option ℕ
 ended i cs none = None
 ended i cs (some n) = Some (i + byte_length (take n cs))
 
-ended_up : (i c : ℕ) (cs : List ℕ) (o : Option ℕ) → ended (i + size c) cs o ≡ ended i (c ∷ cs) (up o)
+ended_up : (i c : ℕ) (cs : List ℕ) (o : Maybe ℕ) → ended (i + size c) cs o ≡ ended i (c ∷ cs) (up o)
 unfolding byte_length
 ended_up i c cs none = refl
 ended_up i c cs (some n) =
@@ -59,14 +59,14 @@ ended_up i c cs (some n) =
 
 -- what comes of a string behind a backslash
 abbrev behind : List ℕ → ℕ → Option Char → Option ℕ
-behind s i (char_of c n) = string_end s (i + n)
+behind s i (Some x) = let c = x.code in let n = x.len in string_end s (i + n)
 behind s i None = None
 
 string_behind : (s : List ℕ) (i c n : ℕ) → decode_at s i ≡ char_of c n → (c ≡ 0x22 → ⊥) → c ≡ 0x5C → string_end s i ≡ behind s (i + n) (decode_at s (i + n))
 string_behind s i c n d h k = by (decode_at s (i + n)) refl
   where
     by : (x : Option Char) → decode_at s (i + n) ≡ x → string_end s i ≡ behind s (i + n) x
-    by (char_of e m) f = string_escape s i d h k f
+    by (Some x) f = let e = x.code in let m = x.len in string_escape s i d h k f
     by None f = string_open s i d h k f
 
 both : (s : List ℕ) {i : ℕ} {cs : List ℕ} → Reads s i cs

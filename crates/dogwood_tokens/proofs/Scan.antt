@@ -19,7 +19,7 @@ use Rattle.dogwood_tokens.specs.declared.token.Lexeme.TheVariants.{Token, NoEnd,
 use Rattle.dogwood_scans.specs.Run.{past_one, run_step, run_end, string_end}
 use Rattle.dogwood_tokens.specs.Scan.{quote, scanned, scan_step, scan_from}
 use Rattle.dogwood_letters.specs.Symbol.{symbol_len}
-use Rattle.dogwood_tokens.specs.Token.{string_to, begins, lexeme, token_at}
+use Rattle.dogwood_tokens.specs.Token.{string_to, begins, lexeme, token_at, symbol_or}
 use Rattle.dogwood_tokens.specs.Tokens.{sought, open_step, open_from}
 use Rattle.dogwood_letters.proofs.SymbolLaws.{double_not}
 use Rattle.dogwood_scans.proofs.Run.{run_onward}
@@ -30,6 +30,7 @@ use Rattle.std.specs.Prelude.{None, Option, Some}
 use Rattle.utf8.specs.declared.Char.{Char}
 use Rattle.dogwood_letters.specs.Promises.{in_line}
 use Rattle.utf8.specs.Char.{char_of}
+use Rattle.dogwood_rows.specs.declared.kind.Kind.TheVariants as K
 
 pub scan_onward : (s : List ℕ) → Onward (scan_step s) (length s)
 unfolding scan_step
@@ -49,7 +50,7 @@ scan_onward s i a j e = by (decode_at s i) refl e
     tests c n false false d h e = let z : i + n ≡ j = cc in let p = inside s i d in omega arith
 
     by : (x : Option Char) → decode_at s i ≡ x → scanned s i x ≡ go a j → (i < j) × (j ≤ length s)
-    by (char_of c n) d e = tests c n (eqb c 0x22) (eqb c 0x2F && eqb (get_or s (i + 1) 0) 0x2F) d refl e
+    by (Some x) d e = let c = x.code in let n = x.len in tests c n (eqb c 0x22) (eqb c 0x2F && eqb (get_or s (i + 1) 0) 0x2F) d refl e
     by None d e = absurd (stop≢go e)
 
 -- ---- one step
@@ -132,7 +133,7 @@ module _ (k : ℕ → Bool) (no-quote : k 0x22 ≡ false) (no_slash : k 0x2F ≡
       tests i j a c n false d h e = absurd (stop≢go e)
 
       by : (i j : ℕ) (a : Unit {0}) (x : Option Char) → decode_at s i ≡ x → past_one k i x ≡ go a j → scan_from s j ≡ scan_from s i
-      by i j a (char_of c n) d e = tests i j a c n (k c) d refl e
+      by i j a (Some x) d e = let c = x.code in let n = x.len in tests i j a c n (k c) d refl e
       by i j a None d e = absurd (stop≢go e)
 
 -- ---- a token
@@ -168,30 +169,30 @@ module _ (s : List ℕ) (i c n : ℕ) (d : decode_at s i ≡ char_of c n) where
       → double c (get_or s (i + 1) 0) ≡ t₆ → single c ≡ t₇
       → scan_from s i
       ≡ after s i
-      (cond t₁ (Token 0 (run_end white s i))
+      (cond t₁ (Token K.Whitespace (run_end white s i))
       (cond t₂ (string_to (string_end s (i + 1)))
-      (cond t₃ (Token 1 (run_end in_line s i))
-      (cond t₄ (Token 3 (run_end wordly s i))
-      (cond t₅ (Token 4 (run_end digit s i))
-      (cond (ltb 0 (cond t₆ 2 (cond t₇ 1 0))) (Token 5 (i + cond t₆ 2 (cond t₇ 1 0)))
-      (Token 6 (run_end other s i))))))))
+      (cond t₃ (Token K.Comment (run_end in_line s i))
+      (cond t₄ (Token K.Identifier (run_end wordly s i))
+      (cond t₅ (Token K.Number (run_end digit s i))
+      (symbol_or s i (cond t₆ (Some 2) (cond t₇ (Some 1) None))))))))
   unfolding white wordly letter digit other single
-  by true t₂ t₃ t₄ t₅ t₆ t₇ h₁ h₂ h₃ h₆ h₇ = sym (scan_run Space refl refl s i)
+  by true t₂ t₃ t₄ t₅ t₆ t₇ h₁ h₂ h₃ h₆ h₇ = sym (scan_run white refl refl s i)
   by false true t₃ t₄ t₅ t₆ t₇ h₁ h₂ h₃ h₆ h₇ = string_after (string_end s (i + 1)) refl h₂
   by false false true t₄ t₅ t₆ t₇ h₁ h₂ h₃ h₆ h₇ = scan_comment s i d h₂ h₃
-  by false false false true t₅ t₆ t₇ h₁ h₂ h₃ h₆ h₇ = sym (scan_run Word refl refl s i)
-  by false false false false true t₆ t₇ h₁ h₂ h₃ h₆ h₇ = sym (scan_run Digit refl refl s i)
+  by false false false true t₅ t₆ t₇ h₁ h₂ h₃ h₆ h₇ = sym (scan_run wordly refl refl s i)
+  by false false false false true t₆ t₇ h₁ h₂ h₃ h₆ h₇ = sym (scan_run digit refl refl s i)
   by false false false false false true t₇ h₁ h₂ h₃ h₆ h₇ = double_after h₆ h₂ h₃
   by false false false false false false true h₁ h₂ h₃ h₆ h₇ =
       scan_past s i d h₂ h₃ ∙ ap (λ (m : ℕ). scan_from s (i + m)) (one_byte (single_ascii c h₇))
-  by false false false false false false false h₁ h₂ h₃ h₆ h₇ = sym (scan_run Other refl refl s i)
+  by false false false false false false false h₁ h₂ h₃ h₆ h₇ = sym (scan_run other refl refl s i)
 
 scan_token : (s : List ℕ) (i : ℕ) → scan_from s i ≡ after s i (token_at s i)
 unfolding token_at begins symbol_len
 scan_token s i = go_on (decode_at s i) refl
   where
     go_on : (x : Option Char) → decode_at s i ≡ x → scan_from s i ≡ after s i (lexeme s i x)
-    go_on (char_of c n) d =
+    go_on (Some x) d =
+        let c = x.code in let n = x.len in
         by s i c n d (white c) (eqb c 0x22) (eqb c 0x2F && eqb (get_or s (i + 1) 0) 0x2F) (letter c) (digit c)
         (double c (get_or s (i + 1) 0)) (single c) refl refl refl refl refl
     go_on None d = scan_fault s i d

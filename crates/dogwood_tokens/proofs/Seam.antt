@@ -2,13 +2,13 @@
 use Prim.Native.Nat.{ℕ, suc, ◌+◌, ◌-◌, ◌<◌}
 use mathlib.Core.Path.{◌≡◌, refl, sym, ap, ◌∙◌, subst}
 use mathlib.Core.List.{List, [], ◌∷◌, map}
-use mathlib.Core.Option.{Option, none, some}
+use mathlib.Core.Option.{Option as Maybe, none, some}
 use native.Mathlib.Omega.{arith}
 use native.Mathlib.Nat.{add-zero, zero-add}
 use lib.ListN.{length, drop}
 use Rattle.dogwood_rules.specs.Basic.{cut, cut_after}
 use Rattle.dogwood_rules.specs.Utf8.{decode, byte_length}
-use Rattle.dogwood_rules.specs.Token.{Placed, placed, token, tokenise, kind_number}
+use Rattle.dogwood_rules.specs.Token.{Placed, placed, token, tokenise}
 use Rattle.dogwood_rules.specs.Token as R
 use Rattle.dogwood_rules.proofs.Cutting.{cut_step, cut_stop}
 use Rattle.dogwood_rules.proofs.Rules.{rule_of}
@@ -23,6 +23,7 @@ use Rattle.dogwood_tokens.proofs.Tokens.{tokens_onward, open_onward}
 use Rattle.dogwood_tokens.proofs.Onwards.{reads-drop, length_parts}
 use Rattle.dogwood_tokens.proofs.Front.{lexeme_of, token-reads}
 use Rattle.std.specs.Prelude.{None, Option, Some}
+use Rattle.dogwood_rows.specs.Kinds.{kind_of}
 
 -- ---- one step, on both sides
 
@@ -31,7 +32,7 @@ pub data Turn (s : List ℕ) (i : ℕ) (cs : List ℕ) : Type 0 where
   turn_open : 0 < length cs → tokenise cs ≡ ([], cs) → token_at s i ≡ NoEnd → Turn s i cs
   turn-token :
       (t : R.Token) (rest : List ℕ) → tokenise cs ≡ (t ∷ (tokenise rest).0, (tokenise rest).1)
-      → token_at s i ≡ Token (kind_number t.kind) (i + byte_length t.text)
+      → token_at s i ≡ Token (kind_of t.kind) (i + byte_length t.text)
       → Reads s (i + byte_length t.text) rest → byte_length t.text + byte_length rest ≡ byte_length cs → Turn s i cs
 
 pub turn_of : (s : List ℕ) {i : ℕ} {cs : List ℕ} → Reads s i cs → Turn s i cs
@@ -39,7 +40,7 @@ unfolding token_at tokenise
 turn_of s {i} (reads_end d) = turn_end refl (ap (lexeme s i) d)
 turn_of s {i} (reads_more {c} {cs} d r) = by (token (c ∷ cs)) refl
   where
-    by : (o : Option (R.Token × ℕ)) → token (c ∷ cs) ≡ o → Turn s i (c ∷ cs)
+    by : (o : Maybe (R.Token × ℕ)) → token (c ∷ cs) ≡ o → Turn s i (c ∷ cs)
     by none h = turn_open (omega arith) (cut_stop token c cs h) (token-reads s i c cs d r ∙ ap (lexeme_of i) h)
     by (some p) h =
         let q = sym (rule_of c cs p.0 p.1 h).1 in
@@ -49,7 +50,7 @@ turn_of s {i} (reads_more {c} {cs} d r) = by (token (c ∷ cs)) refl
 
 -- ---- the tokens
 
-joined : (i : ℕ) (t : R.Token) (rest : List ℕ) (a : Tok) (r : List Tok) → a ≡ record { kind = kind_number t.kind; start = i; end = i + byte_length t.text }
+joined : (i : ℕ) (t : R.Token) (rest : List ℕ) (a : Tok) (r : List Tok) → a ≡ record { kind = kind_of t.kind; start = i; end = i + byte_length t.text }
     → r ≡ map tok (placed (i + byte_length t.text) (tokenise rest).0) → a ∷ r ≡ map tok (placed i (t ∷ (tokenise rest).0))
 unfolding placed
 joined i t rest a r p q = λ j. p j ∷ q j
@@ -76,7 +77,7 @@ tokens-reads s =
     goes i j a r e p cs (turn_open l n q) = absurd (stop≢go (sym (ap (listed i) q) ∙ e))
     goes i j a r e p cs (turn-token t rest n q rd b) =
         let k : i + byte_length t.text ≡ j = cc in
-        let y : a ≡ record { kind = kind_number t.kind; start = i; end = i + byte_length t.text } = cc in
+        let y : a ≡ record { kind = kind_of t.kind; start = i; end = i + byte_length t.text } = cc in
         joined i t rest a r y (p rest (subst (λ (m : ℕ). Reads s m rest) k rd) ∙ ap (λ (m : ℕ). map tok (placed m (tokenise rest).0)) (sym k))
         ∙ ap (λ (x : List R.Token × List ℕ). map tok (placed i x.0)) (sym n)
 

@@ -6,7 +6,7 @@ use native.Mathlib.Omega.{arith}
 use lib.ListN.{length, drop}
 use Rattle.dogwood_rules.specs.Basic.{cut, cut_after}
 use Rattle.dogwood_rules.specs.Utf8.{decode, byte_length}
-use Rattle.dogwood_rules.specs.Token.{Placed, placed, tokenise, kind_number, words_of}
+use Rattle.dogwood_rules.specs.Token.{Placed, placed, tokenise, words_of}
 use Rattle.dogwood_rules.specs.Token as R
 use Rattle.utf8.proofs.Reading.{reads_at, reads_only}
 use Rattle.dogwood_tokens.specs.declared.token.Lexeme.{Lexeme}
@@ -19,6 +19,7 @@ use Rattle.dogwood_tokens.specs.Cursor.{step_to, next_of, tokens_at}
 use Rattle.dogwood_tokens.proofs.Bounds.{token_inside}
 use Rattle.dogwood_tokens.proofs.Seam.{Turn, turn_end, turn_open, turn-token, turn_of}
 use Rattle.dogwood_tokens.proofs.Walks.{next_is}
+use Rattle.dogwood_rows.specs.Kinds.{kind_of, word_of, word_of-kind_of}
 
 ended-token : {t : TokenOf} {c : CursorOf} → Ended ≡ Token t c → ⊥
 ended-token e = let z : ◌≡◌ {A = ℕ} 0 1 = cc in omega arith
@@ -68,14 +69,16 @@ next-token s at {t} {c} h = by (turn_of s (reads_at s at))
 
 -- its words, and its bounds
 pub words_next : (s : List ℕ) (at : ℕ) {t : TokenOf} {c : CursorOf} → next_of s at ≡ Token t c
-    → words_of (tokens_at s at) ≡ t.kind ∷ t.start ∷ t.end ∷ words_of (tokens_at s c.at)
+    → words_of (tokens_at s at) ≡ word_of t.kind ∷ t.start ∷ t.end ∷ words_of (tokens_at s c.at)
 unfolding words_of
 words_next s at {t} {c} h =
     let m = next-token s at h in
     let p : Placed = m.first in
     let e : step_to p ≡ Token t c = m.step in
-    let y : ◌≡◌ {A = TokenOf} (record { kind = kind_number p.token.kind; start = p.start; end = p.stop }) t = cc in
-    ap words_of m.tokens ∙ ap (λ (x : TokenOf). x.kind ∷ x.start ∷ x.end ∷ words_of (tokens_at s c.at)) y
+    let y : ◌≡◌ {A = TokenOf} (record { kind = kind_of p.token.kind; start = p.start; end = p.stop }) t = cc in
+    ap words_of m.tokens
+    ∙ ap (λ (n : ℕ). n ∷ p.start ∷ p.stop ∷ words_of (tokens_at s c.at)) (sym (word_of-kind_of p.token.kind))
+    ∙ ap (λ (x : TokenOf). word_of x.kind ∷ x.start ∷ x.end ∷ words_of (tokens_at s c.at)) y
 
 pub next_bounds : (s : List ℕ) (at : ℕ) {t : TokenOf} {c : CursorOf} → next_of s at ≡ Token t c → (t.start ≡ at) × (t.end ≡ c.at)
 next_bounds s at {t} {c} h = by (token_at s at) refl

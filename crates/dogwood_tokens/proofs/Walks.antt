@@ -2,7 +2,7 @@
 use Prim.Native.Nat.{ℕ, ◌+◌, ◌-◌, ◌<◌}
 use mathlib.Core.Path.{◌≡◌, refl, sym, ap, ◌∙◌, subst}
 use mathlib.Core.List.{List, [], ◌∷◌}
-use mathlib.Core.Option.{Option, none, some}
+use mathlib.Core.Option.{Option as Maybe, none, some}
 use native.Mathlib.Omega.{arith}
 use native.Mathlib.Nat.{add-zero, zero-add}
 use lib.ListN.{length}
@@ -32,7 +32,7 @@ stepped at (L.Token k e) = Token (record { kind = k; start = at; end = e }) (rec
 stepped at L.NoEnd = Unended at
 stepped at L.End = Ended
 
-of_lexeme : (at : ℕ) (o : Option (R.Token × ℕ)) → given at o ≡ stepped at (lexeme_of at o)
+of_lexeme : (at : ℕ) (o : Maybe (R.Token × ℕ)) → given at o ≡ stepped at (lexeme_of at o)
 of_lexeme at none = refl
 of_lexeme at (some p) = refl
 

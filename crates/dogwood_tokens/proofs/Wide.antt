@@ -12,6 +12,7 @@ use Rattle.dogwood_letters.specs.Symbol.{symbol_len}
 use Rattle.dogwood_tokens.specs.Token.{begins}
 use Rattle.dogwood_rules.specs.Token.{other}
 use Rattle.dogwood_letters.proofs.SymbolLaws.{single_big, double_big}
+use Rattle.dogwood_rows.specs.declared.kind.Kind.TheVariants as K
 
 digit_big : (c : ℕ) → 128 ≤ c → digit c ≡ false
 unfolding digit
@@ -29,11 +30,11 @@ letter_big c h =
     )
 
 module _ (s : List ℕ) (i c b : ℕ) where
-  pub wide_space : white c ≡ true → begins s i c b ≡ Token 0 (run_end white s i)
+  pub wide_space : white c ≡ true → begins s i c b ≡ Token K.Whitespace (run_end white s i)
   unfolding begins
   wide_space t = simp t
 
-  pub wide_other : 128 ≤ c → white c ≡ false → begins s i c b ≡ Token 6 (run_end other s i)
+  pub wide_other : 128 ≤ c → white c ≡ false → begins s i c b ≡ Token K.Other (run_end other s i)
   unfolding begins symbol_len
   wide_other h t =
       simp (

@@ -3,15 +3,16 @@ use Rattle.std.specs.Prelude.{ℕ, ◌+◌, ◌-◌, ◌≡◌, List, [], ◌∷
 use Rattle.std.proofs.Common.{sym, ◌∙◌}
 use Rattle.std.proofs.Math.Option.{Option, none, some}
 use Rattle.dogwood_rules.specs.Utf8.{decode, byte_length}
-use Rattle.dogwood_rules.specs.Token.{Placed, placed, token, tokenise, kind_number}
+use Rattle.dogwood_rules.specs.Token.{Placed, placed, token, tokenise}
 use Rattle.dogwood_rules.specs.Token as R
 use Rattle.dogwood_tokens.specs.declared.cursor.Cursor.{Cursor as CursorOf}
 use Rattle.dogwood_tokens.specs.declared.cursor.Step.{Step}
 use Rattle.dogwood_tokens.specs.declared.cursor.Step.TheVariants.{Token, Unended, Ended}
+use Rattle.dogwood_rows.specs.Kinds.{kind_of}
 
 -- a token of dogwood_rules, and the cursor behind it
 abbrev pub step_to : Placed → Step
-step_to p = Token (record { kind = kind_number p.token.kind; start = p.start; end = p.stop }) (record { at = p.stop })
+step_to p = Token (record { kind = kind_of p.token.kind; start = p.start; end = p.stop }) (record { at = p.stop })
 
 -- by what the rules give at the front
 abbrev pub given : ℕ → Option (R.Token × ℕ) → Step

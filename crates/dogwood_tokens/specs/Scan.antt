@@ -5,7 +5,6 @@ use Rattle.utf8.specs.Walk.{Next, stop, go, from}
 use Rattle.dogwood_scans.specs.Run.{run_end, string_end}
 use Rattle.utf8.specs.declared.Char.{Char}
 use Rattle.dogwood_letters.specs.Promises.{in_line}
-use Rattle.utf8.specs.Char.{char_of}
 
 -- past a string, or stop at the quote of one without end
 abbrev pub quote : ℕ → Option ℕ → Next (Unit {0}) (Option ℕ)
@@ -13,10 +12,10 @@ quote i (Some e) = go tt e
 quote i None = stop (Some i)
 
 abbrev pub scanned : List ℕ → ℕ → Option Char → Next (Unit {0}) (Option ℕ)
-scanned s i (char_of c n) =
-    cond (eqb c 0x22) (quote i (string_end s (i + 1)))
-    (cond (eqb c 0x2F && eqb (get_or s (i + 1) 0) 0x2F) (go tt (run_end in_line s i))
-    (go tt (i + n)))
+scanned s i (Some c) =
+    cond (eqb c.code 0x22) (quote i (string_end s (i + 1)))
+    (cond (eqb c.code 0x2F && eqb (get_or s (i + 1) 0) 0x2F) (go tt (run_end in_line s i))
+    (go tt (i + c.len)))
 scanned s i None = stop None
 
 unfoldable pub scan_step : List ℕ → ℕ → Next (Unit {0}) (Option ℕ)

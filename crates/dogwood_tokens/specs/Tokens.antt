@@ -1,21 +1,23 @@
 -- The tokens of a text, and its first string without end, step by step.
 use Rattle.std.specs.Prelude.{ℕ, ◌-◌, List, [], ◌∷◌, length, None, Option, Some}
 use Rattle.dogwood_rules.specs.Utf8.{byte_length}
-use Rattle.dogwood_rules.specs.Token.{Placed, kind_number}
+use Rattle.dogwood_rules.specs.Token.{Placed}
 use Rattle.utf8.specs.Walk.{Next, stop, go, from}
 use Rattle.dogwood_tokens.specs.declared.token.Lexeme.{Lexeme}
 use Rattle.dogwood_tokens.specs.declared.token.Lexeme.TheVariants.{Token, NoEnd, End}
 use Rattle.dogwood_tokens.specs.Token.{token_at}
+use Rattle.dogwood_rows.specs.Kinds.{kind_of}
+use Rattle.dogwood_rows.specs.declared.kind.Kind.{Kind}
 
 -- kind, start and end
 pub record Tok : Type 0 where
-  pub kind : ℕ
+  pub kind : Kind
   pub start : ℕ
   pub end : ℕ
 
 -- a token of dogwood_rules
 abbrev pub tok : Placed → Tok
-tok p = record { kind = kind_number p.token.kind; start = p.start; end = p.stop }
+tok p = record { kind = kind_of p.token.kind; start = p.start; end = p.stop }
 
 -- where what is left begins, in a text of l bytes
 abbrev pub open_at : ℕ → List ℕ → Option ℕ

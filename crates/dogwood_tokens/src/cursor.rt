@@ -3,11 +3,12 @@ ghost use Rattle.std.specs.Prelude.{◌≡◌};
 ghost use Rattle.dogwood_tokens.specs.Cursor.{next_of};
 
 use crate::token::{Lexeme, token_at};
+use dogwood_rows::Kind;
 
 // A token: its kind, and its bounds in the text.
 #[derive(Clone, Copy)]
 pub struct Token {
-    pub kind: u32,
+    pub kind: Kind,
     pub start: usize,
     pub end: usize,
 }

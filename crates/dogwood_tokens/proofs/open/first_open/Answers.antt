@@ -25,26 +25,26 @@ loop-i-smaller-then-b-eq34 c = omega (arith, string_inside c.args.s.now (c.loop-
 pub loop-i-preserved-then-b-eq34 : goal.loop-i-preserved-then-b-eq34
 loop-i-preserved-then-b-eq34 c = sym (byte_closed c.args.s.now c.loop-i.i c.loop-i-test.true c.if-b-eq34.true (sym c.string_end.ensures ∙ c.in-Some.is)) ∙ c.loop-i.invariant
 
-pub returns-in_default-decode : goal.returns-in_default-decode
-returns-in_default-decode c = sym (scan_fault c.args.s.now c.loop-i.i (sym c.decode.ensures ∙ c.in_default-decode.is)) ∙ c.loop-i.invariant ∙ sym (open_scan c.args.s.now 0)
+pub returns-in_err-i : goal.returns-in_err-i
+returns-in_err-i c = c.from_residual.ensures ∙ sym (scan_fault c.args.s.now c.loop-i.i (sym c.decode.ensures ∙ c.in_err-i.was)) ∙ c.loop-i.invariant ∙ sym (open_scan c.args.s.now 0)
 
 pub overflow_add-i-then-b-ge128 : goal.overflow_add-i-then-b-ge128
-overflow_add-i-then-b-ge128 c = omega (arith, inside c.args.s.now c.loop-i.i (sym c.decode.ensures ∙ c.in-Some.is))
+overflow_add-i-then-b-ge128 c = omega (arith, inside c.args.s.now c.loop-i.i (sym c.decode.ensures ∙ c.in_ok-i.was))
 
 pub loop-i-smaller-then-b-ge128 : goal.loop-i-smaller-then-b-ge128
-loop-i-smaller-then-b-ge128 c = omega (arith, inside c.args.s.now c.loop-i.i (sym c.decode.ensures ∙ c.in-Some.is))
+loop-i-smaller-then-b-ge128 c = omega (arith, inside c.args.s.now c.loop-i.i (sym c.decode.ensures ∙ c.in_ok-i.was))
 
 pub loop-i-preserved-then-b-ge128 : goal.loop-i-preserved-then-b-ge128
-loop-i-preserved-then-b-ge128 c = sym (wide_past c.args.s.now c.loop-i.i c.loop-i-test.true (sym c.decode.ensures ∙ c.in-Some.is) c.if-b-ge128.true) ∙ c.loop-i.invariant
+loop-i-preserved-then-b-ge128 c = sym (wide_past c.args.s.now c.loop-i.i c.loop-i-test.true (sym c.decode.ensures ∙ c.in_ok-i.was) c.if-b-ge128.true) ∙ c.loop-i.invariant
 
 pub overflow_add-i-then-b-eq47 : goal.overflow_add-i-then-b-eq47
 overflow_add-i-then-b-eq47 c = omega arith
 
 pub loop-i-smaller-then-comment : goal.loop-i-smaller-then-comment
-loop-i-smaller-then-comment c = omega (arith, c.take_line-i.ensures, comment_inside c.args.s.now c.loop-i.i c.loop-i-test.true c.if-b-eq47.true)
+loop-i-smaller-then-comment c = omega (arith, c.take_while-i.ensures, comment_inside c.args.s.now c.loop-i.i c.loop-i-test.true c.if-b-eq47.true)
 
 pub loop-i-preserved-then-comment : goal.loop-i-preserved-then-comment
-loop-i-preserved-then-comment c = ap (scan_from c.args.s.now) c.take_line-i.ensures ∙ sym (byte_comment c.args.s.now c.loop-i.i c.loop-i-test.true c.if-b-eq47.true (sym c.byte-comment.ensures ∙ c.if-comment.true)) ∙ c.loop-i.invariant
+loop-i-preserved-then-comment c = ap (scan_from c.args.s.now) c.take_while-i.ensures ∙ sym (byte_comment c.args.s.now c.loop-i.i c.loop-i-test.true c.if-b-eq47.true (sym c.byte-comment.ensures ∙ c.if-comment.true)) ∙ c.loop-i.invariant
 
 pub overflow_add-i-else-comment : goal.overflow_add-i-else-comment
 overflow_add-i-else-comment c = omega arith
