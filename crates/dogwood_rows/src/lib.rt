@@ -12,4 +12,4 @@ pub use parts::{between, first_rows, inside};
 pub use writing::put_row;
 
 // The words of a row.
-pub(crate) const WORDS: usize = 3;
+pub const WORDS: usize = 3;

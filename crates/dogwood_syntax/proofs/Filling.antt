@@ -15,15 +15,11 @@ use Rattle.dogwood_tokens.specs.Cursor.{tokens_at}
 use Rattle.dogwood_tokens.specs.Tokens.{open_from}
 use Rattle.dogwood_syntax.specs.Table.{short_of}
 use Rattle.dogwood_syntax.specs.Answers.{answer, filled, table_after}
-use Rattle.dogwood_syntax.specs.declared.tokenizing.Tokenized.{Tokenized}
-use Rattle.dogwood_syntax.specs.declared.tokenizing.Tokenized.TheVariants.{Done, Unended, Small}
-use Rattle.std.specs.Prelude.{None, Some}
+use Rattle.dogwood_syntax.specs.declared.tokenizing.NotTokenized.{NotTokenized}
+use Rattle.dogwood_syntax.specs.declared.tokenizing.NotTokenized.TheVariants.{Unended, Small}
+use Rattle.std.specs.Prelude.{None, Some, Result, Ok, Err}
 
 -- ---- words
-
--- the three stores of a record, at the places that the code writes
-pub stored : (t : List ℕ) (k a b c : ℕ) (ws : List ℕ) → sets (set (set (set t k a) (k + 1) b) (k + 2) c) (k + 3) ws ≡ sets t k (a ∷ b ∷ c ∷ ws)
-stored t k a b c ws = simp towards_suc
 
 -- a record that there was room for, and those behind it
 pub put_on : (t t' : List ℕ) (n a b c : ℕ) (ws : List ℕ) → t' ≡ cond (leb (3 * n + 3) (length t)) (sets t (3 * n) (a ∷ b ∷ c ∷ [])) t → 3 * n + 3 ≤ length t
@@ -61,19 +57,19 @@ short_none records n e = by (ltb records n) refl e
     by false h e = ltb-false records n h
 
 module _ (s : List ℕ) (l : ℕ) where
-  pub answer_open : {i : ℕ} → open_from s 0 ≡ Some i → answer s l ≡ Unended i
+  pub answer_open : {i : ℕ} → open_from s 0 ≡ Some i → answer s l ≡ Err (Unended i)
   unfolding answer
   answer_open e = simp e
 
-  pub answer_small : {n : ℕ} → open_from s 0 ≡ None → length (tokens_at s 0) ≡ n → l < 3 * n → answer s l ≡ Small n
+  pub answer_small : {n : ℕ} → open_from s 0 ≡ None → length (tokens_at s 0) ≡ n → l < 3 * n → answer s l ≡ Err (Small n)
   unfolding answer
   answer_small e f g = simp (e, f, lt-leb _ _ g)
 
-  pub answer_done : {n : ℕ} → open_from s 0 ≡ None → length (tokens_at s 0) ≡ n → 3 * n ≤ l → answer s l ≡ Done n
+  pub answer_done : {n : ℕ} → open_from s 0 ≡ None → length (tokens_at s 0) ≡ n → 3 * n ≤ l → answer s l ≡ Ok n
   unfolding answer
   answer_done e f g = simp (e, f, le-leb _ _ g)
 
-pub table_of : (s t : List ℕ) {a : Tokenized} → answer s (length t) ≡ a → table_after s t ≡ filled a (words_of (tokens_at s 0)) t
+pub table_of : (s t : List ℕ) {a : Result ℕ NotTokenized} → answer s (length t) ≡ a → table_after s t ≡ filled a (words_of (tokens_at s 0)) t
 unfolding table_after
 table_of s t e = ap (λ x. filled x (words_of (tokens_at s 0)) t) e
 

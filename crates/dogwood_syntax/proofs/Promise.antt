@@ -16,15 +16,15 @@ use Rattle.dogwood_rules.proofs.Sources.{source_long, source_bad, source_open, s
 use Rattle.dogwood_rules.proofs.Decoding.{decode_sound}
 use Rattle.utf8.specs.Told.{left_at}
 use Rattle.utf8.proofs.Mark.{mark_inside, length_text}
-use Rattle.dogwood_syntax.specs.declared.tokenizing.Tokenized.{Tokenized}
-use Rattle.dogwood_syntax.specs.declared.tokenizing.Tokenized.TheVariants.{Done, Unended, Small}
+use Rattle.dogwood_syntax.specs.declared.tokenizing.NotTokenized.{NotTokenized}
+use Rattle.dogwood_syntax.specs.declared.tokenizing.NotTokenized.TheVariants.{Unended, Small}
 use Rattle.dogwood_tokens.specs.Tokens.{open_from, open_at}
 use Rattle.dogwood_syntax.specs.Answers.{filled, answer, table_after}
 use Rattle.dogwood_tokens.specs.Cursor.{tokens_at}
 use Rattle.dogwood_syntax.specs.Numbers.{number, value}
 use Rattle.dogwood_syntax.proofs.Filling.{answer_open, answer_small, answer_done, table_of}
 use Rattle.dogwood_tokens.proofs.Seam.{open_seam, placed_seam}
-use Rattle.std.specs.Prelude.{None, Some}
+use Rattle.std.specs.Prelude.{None, Some, Result, Ok, Err}
 
 -- an answer of the rules, held against what was answered
 keeps : (s t : List ℕ) (a : Alone) (n v : ℕ) (t' : List ℕ) → tokenised s (length t) ≡ a → n ≡ a.number → v ≡ a.value → t' ≡ over a.table t → Tokenises s t n v t'
@@ -67,7 +67,7 @@ module _ (s t : List ℕ) (h : length s ≤ 1048576) where
           keeps s t (stopped 12 (length s - length (b ∷ l))) 12 (length (mark_of s) + i) t (from_source s (length t) (source_bad s h b l k)) refl (omega arith) refl
 
   -- 1, 13, 0
-  module _ (e : (decode (text_of s)).1 ≡ []) (a : Tokenized) (p : a ≡ answer (text_of s) (length t)) (t' : List ℕ) (r : t' ≡ table_after (text_of s) t) where
+  module _ (e : (decode (text_of s)).1 ≡ []) (a : Result ℕ NotTokenized) (p : a ≡ answer (text_of s) (length t)) (t' : List ℕ) (r : t' ≡ table_after (text_of s) t) where
     cs : List ℕ
     cs = (decode (text_of s)).0
 
@@ -79,7 +79,7 @@ module _ (s t : List ℕ) (h : length s ≤ 1048576) where
     ps = placed 0 (tokenise cs).0
 
     -- what the code answered, and the table that it left
-    answered : (b : Tokenized) (x : Alone) → answer (text_of s) (length t) ≡ b → tokenised s (length t) ≡ x → number b ≡ x.number → value b ≡ x.value
+    answered : (b : Result ℕ NotTokenized) (x : Alone) → answer (text_of s) (length t) ≡ b → tokenised s (length t) ≡ x → number b ≡ x.number → value b ≡ x.value
         → filled b (words_of (tokens_at (text_of s) 0)) t ≡ over x.table t → Tokenises s t (number a) (value a) t'
     answered b x q k n v f =
         keeps s t x (number a) (value a) t' k (ap number (p ∙ q) ∙ n) (ap value (p ∙ q) ∙ v) (r ∙ table_of (text_of s) t q ∙ f)
@@ -87,7 +87,7 @@ module _ (s t : List ℕ) (h : length s ≤ 1048576) where
     open_kept : (c : ℕ) (l : List ℕ) → (tokenise cs).1 ≡ c ∷ l → Tokenises s t (number a) (value a) t'
     unfolding told stopped cs
     open_kept c l m =
-        answered (Unended (length (text_of s) - byte_length (c ∷ l))) (stopped 1 (length (text_of s) - byte_length (c ∷ l)))
+        answered (Err (Unended (length (text_of s) - byte_length (c ∷ l)))) (stopped 1 (length (text_of s) - byte_length (c ∷ l)))
         (answer_open (text_of s) (length t) (open_seam (text_of s) cs good ∙ ap (open_at (length (text_of s))) m))
         (from_source s (length t) (source_open s h e c l m))
         refl refl refl
@@ -104,11 +104,11 @@ module _ (s t : List ℕ) (h : length s ≤ 1048576) where
 
         by : (b : Bool) → ltb (length t) (3 * length ps) ≡ b → Tokenises s t (number a) (value a) t'
         by true k =
-            answered (Small (length ps)) (stopped 13 (length ps))
+            answered (Err (Small (length ps))) (stopped 13 (length ps))
             (answer_small (text_of s) (length t) none (ap length (placed_seam (text_of s) cs good)) (ltb-true _ _ k))
             (all ∙ simp k) refl refl refl
         by false k =
-            answered (Done (length ps)) (record { number = 0; value = length ps; table = words_of ps })
+            answered (Ok (length ps)) (record { number = 0; value = length ps; table = words_of ps })
             (answer_done (text_of s) (length t) none (ap length (placed_seam (text_of s) cs good)) (ltb-false _ _ k))
             (all ∙ simp k) refl refl
             (ap (λ (l : List Placed). over (words_of l) t) (placed_seam (text_of s) cs good))
@@ -120,7 +120,7 @@ module _ (s t : List ℕ) (h : length s ≤ 1048576) where
         by [] m = fit_kept m
         by (c ∷ l) m = open_kept c l m
 
-  pub text_kept : left_at (length (text_of s)) (decode (text_of s)).1 ≡ None → (a : Tokenized) → a ≡ answer (text_of s) (length t)
+  pub text_kept : left_at (length (text_of s)) (decode (text_of s)).1 ≡ None → (a : Result ℕ NotTokenized) → a ≡ answer (text_of s) (length t)
       → (t' : List ℕ) → t' ≡ table_after (text_of s) t → Tokenises s t (number a) (value a) t'
   text_kept e a p t' r = by (decode (text_of s)).1 refl e
     where

@@ -4,4 +4,4 @@
 mod table;
 mod tokenizing;
 
-pub use tokenizing::{Tokenized, tokenize};
+pub use tokenizing::{LONGEST, NotTokenized, tokenize};

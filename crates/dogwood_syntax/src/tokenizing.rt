@@ -4,18 +4,16 @@ ghost use Rattle.dogwood_rules.specs.Promises.{Tokenises};
 ghost use Rattle.dogwood_syntax.specs.Numbers.{number, value};
 ghost use Rattle.dogwood_syntax.specs.Answers.{answer, table_after};
 
-use crate::table::{RECORD, fill, shortage};
+use crate::table::{fill, shortage};
+use dogwood_rows::WORDS;
 use dogwood_tokens::first_open;
-use utf8::Found;
 
 // How many bytes a source may have.
-const LONGEST: usize = 1048576;
+pub const LONGEST: usize = 1048576;
 
-// What tokenising answers.
-#[derive(Clone, Copy)]
-pub enum Tokenized {
-    // How many tokens the table begins with.
-    Done(usize),
+// Why a table was not filled.
+#[derive(Clone, Copy, Debug, PartialEq, Eq)]
+pub enum NotTokenized {
     // Where a string without end begins.
     Unended(usize),
     TooLong,
@@ -26,33 +24,31 @@ pub enum Tokenized {
 }
 
 // The tokens of a text into a table.
-fn tokenize_text(text: &[u8], table: &mut [u32]) -> Tokenized
+fn tokenize_text(text: &[u8], table: &mut [u32]) -> Result<usize, NotTokenized>
     requires { length text.now ≤ 1048576 }
     ensures value { result ≡ answer text.now (length table.old) }
     ensures table_after { table.new ≡ table_after text.now table.old }
 {
-    match first_open(text) {
-        Found::At(i) => Tokenized::Unended(i),
-        Found::Nothing => {
-            match shortage(text, table.len() / RECORD) {
-                Found::At(n) => Tokenized::Small(n),
-                Found::Nothing => Tokenized::Done(fill(text, table)),
-            }
-        }
+    if let Some(place) = first_open(text) {
+        return Err(NotTokenized::Unended(place));
     }
+    if let Some(tokens) = shortage(text, table.len() / WORDS) {
+        return Err(NotTokenized::Small(tokens));
+    }
+    Ok(fill(text, table))
 }
 
-// The tokens of a source into a table: too long, not UTF-8, a string without end, a table too small, or done. The table stays as it is
-// unless it is done.
-pub fn tokenize(src: &[u8], table: &mut [u32]) -> Tokenized
+// The tokens of a source into a table, and how many they are; or that it is too long, is not UTF-8 or has a string without end, or that the
+// table is too small, and then the table stays as it is.
+pub fn tokenize(src: &[u8], table: &mut [u32]) -> Result<usize, NotTokenized>
     ensures { Tokenises src.now table.old (number result) (value result) table.new }
 {
     if LONGEST < src.len() {
-        return Tokenized::TooLong;
+        return Err(NotTokenized::TooLong);
     }
     let start = utf8::split_bom(src);
-    match utf8::first_bad(&src[start..]) {
-        Found::At(i) => Tokenized::NotUtf8(start + i),
-        Found::Nothing => tokenize_text(&src[start..], table),
+    if let Some(place) = utf8::first_bad(&src[start..]) {
+        return Err(NotTokenized::NotUtf8(start + place));
     }
+    tokenize_text(&src[start..], table)
 }

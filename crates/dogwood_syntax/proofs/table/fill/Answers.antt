@@ -1,13 +1,19 @@
 use Prim.Native.Nat.{ℕ, ◌+◌, ◌*◌, ◌≤◌}
-use mathlib.Core.Path.{refl, sym, ap, ◌∙◌}
+use mathlib.Core.Path.{◌≡◌, refl, sym, ap, ◌∙◌}
 use native.Mathlib.Omega.{arith}
 use native.Mathlib.Nat.{zero-add}
 use lib.ListN.{length}
 use lib.Seq.{sets}
 use lib.Dec.{leb}
+use mathlib.Core.Bool.{cond}
 use mathlib.Core.List.{List, [], ◌∷◌}
 use Rattle.dogwood_rules.specs.Token.{Placed, words_of}
-use Rattle.dogwood_tokens.specs.Cursor.{tokens_at}
+use Rattle.dogwood_rows.specs.Kinds.{word_of}
+use Rattle.dogwood_tokens.specs.declared.cursor.Token.{Token as TokenOf}
+use Rattle.dogwood_tokens.specs.declared.cursor.Cursor.{Cursor as CursorOf}
+use Rattle.dogwood_tokens.specs.declared.cursor.Step.{Step}
+use Rattle.dogwood_tokens.specs.declared.cursor.Step.TheVariants.{Token, Unended, Ended}
+use Rattle.dogwood_tokens.specs.Cursor.{next_of, tokens_at}
 use Rattle.dogwood_tokens.proofs.Steps.{next_onward, next-token, next_bounds, words_next, next-ended, next-unended}
 use Rattle.dogwood_syntax.proofs.Filling.{put_on, put_length, length_words}
 use Rattle.dogwood_syntax.proofs.table.fill.Goals as goal
@@ -21,11 +27,10 @@ loop-token-init c = (
   λ h. ap (λ (i : ℕ). sets c.args.table.now 0 (words_of (tokens_at c.args.text.now i))) c.new-cursor.ensures,
 )
 
-pub put-requires : goal.put-requires
-put-requires c =
-    let p = next_bounds c.args.text.now c.loop-token.cursor.at (sym c.next.ensures ∙ c.in-Token.is) in
+pub overflow_cast-behind : goal.overflow_cast-behind
+overflow_cast-behind c =
     let q = next_onward c.args.text.now c.loop-token.cursor.at (sym c.next.ensures ∙ c.in-Token.is) in
-    (omega (arith, c.requires), omega (arith, c.requires))
+    omega (arith, c.requires)
 
 pub overflow_add-n : goal.overflow_add-n
 overflow_add-n c = omega (arith, next_onward c.args.text.now c.loop-token.cursor.at (sym c.next.ensures ∙ c.in-Token.is))
@@ -40,47 +45,38 @@ loop-token-preserved c =
     let n = c.loop-token.n in
     let t = c.loop-token.table in
     let token = c.in-Token.token in
+    let k = word_of token.kind in
     let behind = c.in-Token.behind.at in
     let rest = tokens_at s behind in
     let h = (sym c.next.ensures ∙ c.in-Token.is) in
     let o = next_onward s at h in
     let b = next_bounds s at h in
     let m = ap length (next-token s at h).tokens in
-    let v = c.loop-token.invariant in (
+    let v = c.loop-token.invariant in
+    let e = c.put_row.ensures ∙ ap (λ (x : ℕ). cond (leb (3 * n + 3) (length t)) (sets t (3 * n) (x ∷ at ∷ behind ∷ [])) t) c.from.ensures in (
       omega arith,
       o.1,
-      put_length t c.put.new.table (token.kind ∷ at ∷ behind ∷ []) (3 * n) (leb (3 * n + 3) (length t)) c.put.ensures ∙ v.2,
+      put_length t c.put_row.new.table (k ∷ at ∷ behind ∷ []) (3 * n) (leb (3 * n + 3) (length t)) e ∙ v.2,
       omega (arith, v.3),
       λ f.
           let w = length_words (tokens_at s 0) in
           let r : 3 * n + 3 ≤ length t = omega (arith, v.2, v.3) in
-          put_on t c.put.new.table n token.kind at behind (words_of rest) c.put.ensures r
-          ∙ (λ i. sets t (3 * n) (token.kind ∷ sym b.0 i ∷ sym b.1 i ∷ words_of rest))
+          put_on t c.put_row.new.table n k at behind (words_of rest) e r
+          ∙ (λ i. sets t (3 * n) (k ∷ sym b.0 i ∷ sym b.1 i ∷ words_of rest))
           ∙ ap (sets t (3 * n)) (sym (words_next s at h)) ∙ v.4 f,
     )
 
-pub shape_of-table-in-Unended : goal.shape_of-table-in-Unended
-shape_of-table-in-Unended c = c.loop-token.invariant.2
+-- any other step than a token says that there is none
+no_more : (s : List ℕ) (at : ℕ) (x : Step) → next_of s at ≡ x → ((t : TokenOf) (b : CursorOf) → x ≡ Token t b → ⊥) → tokens_at s at ≡ []
+no_more s at (Token t b) e h = absurd (h t b refl)
+no_more s at (Unended i) e h = next-unended s at e
+no_more s at Ended e h = next-ended s at e
 
-pub returns-in-Unended : goal.returns-in-Unended
+pub returns : goal.returns
 unfolding words_of
-returns-in-Unended c =
+returns c =
     let s = c.args.text.now in
-    let none = next-unended s c.loop-token.cursor.at (sym c.next.ensures ∙ c.in-Unended.is) in
-    let v = c.loop-token.invariant in
-    record {
-      total = omega (arith, ap length none, v.3);
-      written = λ f. ap (λ (l : List Placed). sets c.loop-token.table (3 * c.loop-token.n) (words_of l)) (sym none) ∙ v.4 f;
-    }
-
-pub shape_of-table-in-Ended : goal.shape_of-table-in-Ended
-shape_of-table-in-Ended c = c.loop-token.invariant.2
-
-pub returns-in-Ended : goal.returns-in-Ended
-unfolding words_of
-returns-in-Ended c =
-    let s = c.args.text.now in
-    let none = next-ended s c.loop-token.cursor.at (sym c.next.ensures ∙ c.in-Ended.is) in
+    let none = no_more s c.loop-token.cursor.at c.next.result (sym c.next.ensures) c.in_default.not-Token in
     let v = c.loop-token.invariant in
     record {
       total = omega (arith, ap length none, v.3);

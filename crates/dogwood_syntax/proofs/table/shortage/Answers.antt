@@ -9,12 +9,12 @@ use Rattle.dogwood_syntax.proofs.table.shortage.Goals as goal
 
 pub returns-then-enough : goal.returns-then-enough
 unfolding short_of
-returns-then-enough c = simp (le-ltb c.args.records (length (tokens_at c.args.text.now 0)) (omega (arith, tokens_few c.args.text.now 0 (omega arith), count_all c.args.text.now)))
+returns-then-enough c = simp (le-ltb c.args.rows (length (tokens_at c.args.text.now 0)) (omega (arith, tokens_few c.args.text.now 0 (omega arith), count_all c.args.text.now)))
 
-pub returns-then-records-n : goal.returns-then-records-n
+pub returns-then-rows-n : goal.returns-then-rows-n
 unfolding short_of
-returns-then-records-n c = simp (← c.count-n.ensures, lt-ltb _ _ c.if-records-n.true)
+returns-then-rows-n c = simp (← c.count-n.ensures, lt-ltb _ _ c.if-rows-n.true)
 
-pub returns : goal.returns
+pub returns-else-rows-n : goal.returns-else-rows-n
 unfolding short_of
-returns c = simp (← c.count-n.ensures, le-ltb _ _ c.if-records-n.false)
+returns-else-rows-n c = simp (← c.count-n.ensures, le-ltb _ _ c.if-rows-n.false)

@@ -40,9 +40,9 @@ returns-in-Some c =
     simp c.split_bom-start.ensures
     (bad_kept c.args.src.now c.args.table.now c.if-src-gt-LONGEST.false _ (found c.args.src.now c.split_bom-start.result c.first_bad.result c.split_bom-start.ensures c.first_bad.ensures ∙ c.in-Some.is))
 
-pub returns-in-None : goal.returns-in-None
-returns-in-None c =
+pub returns : goal.returns
+returns c =
     let e = text_of_lem c.args.src.now c.split_bom-start.result c.split_bom-start.ensures in
-    text_kept c.args.src.now c.args.table.now c.if-src-gt-LONGEST.false (found c.args.src.now c.split_bom-start.result c.first_bad.result c.split_bom-start.ensures c.first_bad.ensures ∙ c.in-None.is)
+    text_kept c.args.src.now c.args.table.now c.if-src-gt-LONGEST.false (found c.args.src.now c.split_bom-start.result c.first_bad.result c.split_bom-start.ensures c.first_bad.ensures ∙ c.in_default.is)
     c.tokenize_text.result (c.tokenize_text.ensures.value ∙ ap (λ (l : List ℕ). answer l (length c.args.table.now)) e)
     c.tokenize_text.new.table (c.tokenize_text.ensures.table_after ∙ ap (λ (l : List ℕ). table_after l c.args.table.now) e)

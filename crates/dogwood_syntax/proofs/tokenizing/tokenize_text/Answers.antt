@@ -19,17 +19,17 @@ pub returns-in-Some-shortage : goal.returns-in-Some-shortage
 returns-in-Some-shortage c =
     let s = c.args.text.now in
     let t = c.args.table.now in
-    let o = sym c.first_open.ensures ∙ c.in-None.is in
+    let o = sym c.first_open.ensures ∙ c.in_default.is in
     let q = short_some (length t / 3) (length (tokens_at s 0)) _ (sym c.shortage.ensures ∙ c.in-Some-shortage.is) in
     let e = answer_small s (length t) o q.1 (omega arith) in
     record { value = sym e; table_after = sym (table_of s t e) }
 
-pub returns-in-None-shortage : goal.returns-in-None-shortage
-returns-in-None-shortage c =
+pub returns : goal.returns
+returns c =
     let s = c.args.text.now in
     let t = c.args.table.now in
-    let o = sym c.first_open.ensures ∙ c.in-None.is in
-    let q = short_none (length t / 3) (length (tokens_at s 0)) (sym c.shortage.ensures ∙ c.in-None-shortage.is) in
+    let o = sym c.first_open.ensures ∙ c.in_default.is in
+    let q = short_none (length t / 3) (length (tokens_at s 0)) (sym c.shortage.ensures ∙ c.in_default-shortage.is) in
     let w = length_words (tokens_at s 0) in
     let f = c.fill.ensures in
     let e = answer_done s (length t) o (sym f.total) (omega (arith, f.total)) in
