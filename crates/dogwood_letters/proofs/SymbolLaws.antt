@@ -5,12 +5,10 @@ use mathlib.Core.Path.{◌≡◌, refl, sym, ap, ◌∙◌}
 use mathlib.Core.Bool.{Bool, true, false, cond, ◌&&◌, ◌||◌}
 use mathlib.Core.List.{List, [], ◌∷◌}
 use native.Mathlib.Omega.{arith}
-use borrow.Author.Tests.{eqb-true, eqb-false, eq-eqb, ne_eqb, ltb-true, ltb-false, lt-leb, le-leb}
+use borrow.Author.Tests.{eqb-true, eqb-false, eq-eqb, ne_eqb, ltb-true}
 use lib.Dec.{ltb, eqb}
 use Rattle.dogwood_rules.specs.Basic.{one_of, every}
 use Rattle.dogwood_rules.specs.Token.{single, double}
-use Rattle.dogwood_rules.proofs.Below.{below}
-use Rattle.utf8.specs.Utf8.{within}
 use Rattle.utf8.proofs.Cases.{and_true}
 use Rattle.dogwood_letters.specs.Symbol.{symbol_len}
 

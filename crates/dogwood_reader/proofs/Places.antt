@@ -4,13 +4,13 @@ use mathlib.Core.Path.{◌≡◌, refl, sym, ap, ◌∙◌, subst}
 use mathlib.Core.Bool.{Bool, true, false}
 use mathlib.Core.List.{List, [], ◌∷◌}
 use native.Mathlib.Omega.{arith}
-use borrow.Author.Tests.{lt-ltb, le-ltb, ltb-true, ltb-false}
+use borrow.Author.Tests.{ltb-true, ltb-false}
 use lib.ListN.{length, take, drop}
 use lib.Dec.{ltb}
 use Rattle.dogwood_rules.specs.Utf8.{decode, byte_length, mark_of, text_of}
 use Rattle.dogwood_rules.specs.Token.{Placed, placed, tokenise}
 use Rattle.dogwood_rules.specs.Source.{Source, source_of}
-use Rattle.dogwood_rules.specs.Alone.{told, total, tokenised, stopped}
+use Rattle.dogwood_rules.specs.Alone.{told as as_alone, total, tokenised, stopped}
 use Rattle.dogwood_rules.specs.Readings.{nth, reading_of, reading, ended, no_end, refused}
 use Rattle.dogwood_rules.specs.Readings as R
 use Rattle.dogwood_rules.proofs.Sources.{source_long, source_bad, source_open, source_cut}
@@ -20,10 +20,15 @@ use Rattle.dogwood_tokens.specs.declared.cursor.Step.{Step}
 use Rattle.dogwood_tokens.specs.declared.cursor.Step.TheVariants as S
 use Rattle.dogwood_tokens.specs.Cursor.{next_of, last_of, Walk, walk_end, walk_open, walk_more}
 use Rattle.dogwood_syntax.proofs.Promise.{bad_kept}
-use Rattle.dogwood_tokens.proofs.Steps.{next_onward, next_bounds}
 use Rattle.dogwood_tokens.proofs.Walks.{walks}
-use Rattle.dogwood_reader.specs.declared.State.{State}
-use Rattle.dogwood_reader.specs.Standing.{state_of, standing, step_state, place_of, moved, held}
+use Rattle.dogwood_rows.specs.declared.kind.Kind.{Kind}
+use Rattle.dogwood_rows.specs.Kinds.{kind_of, word_of, kind_at, kind_at-word_of, word_of-kind_of}
+use Rattle.dogwood_rules.specs.Token.{kind_number}
+use Rattle.dogwood_rules.specs.Token as T
+use Rattle.dogwood_reader.specs.declared.Reading.{Reading}
+use Rattle.dogwood_reader.specs.declared.Reading.TheVariants.{Token, Refused}
+use Rattle.dogwood_reader.specs.declared.Refusal.TheVariants.{TooLong, NotUtf8}
+use Rattle.dogwood_reader.specs.Standing.{told, state_of, standing, step_state, place_of, moved}
 use Rattle.std.specs.Prelude.{None, Some}
 
 -- what the code finds behind the mark
@@ -48,20 +53,20 @@ bad_reads s n h b l e = from_source s n (source_bad s h b l e)
 -- the place, as the code has it
 bad_place : (s : List ℕ) (h : length s ≤ 1048576) (i b : ℕ) (l : List ℕ) → (decode (text_of s)).1 ≡ b ∷ l → left_at (length (text_of s)) (decode (text_of s)).1 ≡ Some i
     → length (mark_of s) + i ≡ length s - length (b ∷ l)
-unfolding tokenised told stopped
+unfolding tokenised as_alone stopped
 bad_place s h i b l e q =
-    (bad_kept s [] h i q).valued ∙ ap (λ (x : Source). (told (length {A = ℕ} []) total x).value) (source_bad s h b l e)
+    (bad_kept s [] h i q).valued ∙ ap (λ (x : Source). (as_alone (length {A = ℕ} []) total x).value) (source_bad s h b l e)
 
-pub long_start : (s : List ℕ) → 1048576 < length s → standing s 0 ≡ record { number = 11; kind = 0; start = 0; end = 0 }
+pub long_start : (s : List ℕ) → 1048576 < length s → standing s 0 ≡ Refused TooLong
 unfolding standing
 long_start s h = ap state_of (long_reads s 0 h)
 
 pub bad_start : (s : List ℕ) → length s ≤ 1048576 → (i : ℕ) → left_at (length (text_of s)) (decode (text_of s)).1 ≡ Some i
-    → standing s 0 ≡ record { number = 12; kind = 0; start = length (mark_of s) + i; end = length (mark_of s) + i }
+    → standing s 0 ≡ Refused (NotUtf8 (length (mark_of s) + i))
 unfolding standing
 bad_start s h i q = by (decode (text_of s)).1 refl
   where
-    by : (l : List ℕ) → (decode (text_of s)).1 ≡ l → state_of (reading s 0) ≡ record { number = 12; kind = 0; start = length (mark_of s) + i; end = length (mark_of s) + i }
+    by : (l : List ℕ) → (decode (text_of s)).1 ≡ l → state_of (reading s 0) ≡ Refused (NotUtf8 (length (mark_of s) + i))
     by [] e =
         let y : left_at (length (text_of s)) [] ≡ Some i = ap (left_at (length (text_of s))) (sym e) ∙ q in
         absurd (let z : ◌≡◌ {A = ℕ} 0 1 = cc in omega arith)
@@ -101,35 +106,36 @@ walked s h e = by (tokenise (decode (text_of s)).0).1 refl
       reads = λ n. from_source s n (source_open s h e c l m);
     }
 
+-- a kind goes by its number and comes back
+kind_again : (k : T.Kind) → kind_at (kind_number k) ≡ kind_of k
+kind_again k = ap kind_at (sym (word_of-kind_of k)) ∙ kind_at-word_of (kind_of k)
+
+number_again : (k : T.Kind) → word_of (kind_at (kind_number k)) ≡ kind_number k
+number_again k = ap word_of (kind_again k) ∙ word_of-kind_of k
+
 module _ (s : List ℕ) where
-  abbrev at_place : ℕ → State
+  abbrev at_place : ℕ → Reading
   at_place i = step_state (next_of (text_of s) i)
 
   walk_start : {at : ℕ} {ps : List Placed} {last : Step} → Walk (text_of s) at ps last → at_place at ≡ state_of (nth (last_reading last) ps 0)
   unfolding nth
   walk_start (walk_end e) = ap step_state e
   walk_start (walk_open e) = ap step_state e
-  walk_start (walk_more e w) = ap step_state e
+  walk_start (walk_more {p} e w) = ap step_state e ∙ ap (λ (k : Kind). Token (record { kind = k; start = p.start; end = p.stop })) (sym (kind_again p.token.kind))
 
   pub walk-moved : {at : ℕ} {ps : List Placed} {last : Step} → Walk (text_of s) at ps last → (n : ℕ) → moved s (state_of (nth (last_reading last) ps n)) ≡ state_of (nth (last_reading last) ps (suc n))
   unfolding nth moved place_of
   walk-moved (walk_end e) n = refl
-  walk-moved (walk_open {at} {i} e) n = simp (le-ltb i i (omega arith))
-  walk-moved (walk_more {at} {p} e w) zero =
-      let o = next_onward (text_of s) at e in
-      let b = next_bounds (text_of s) at e in
-      simp (lt-ltb p.start p.stop (omega arith)) (walk_start w)
+  walk-moved (walk_open e) n = refl
+  walk-moved (walk_more e w) zero = walk_start w
   walk-moved (walk_more e w) (suc n) = walk-moved w n
 
-  pub walk-held : {at : ℕ} {ps : List Placed} {last : Step} → Walk (text_of s) at ps last → (n : ℕ) → held (state_of (nth (last_reading last) ps n)) ≡ nth (last_reading last) ps n
-  unfolding nth held
-  walk-held (walk_end e) n = refl
-  walk-held (walk_open {at} {i} e) n = simp (le-ltb i i (omega arith))
-  walk-held (walk_more {at} {p} e w) zero =
-      let o = next_onward (text_of s) at e in
-      let b = next_bounds (text_of s) at e in
-      simp (lt-ltb p.start p.stop (omega arith))
-  walk-held (walk_more e w) (suc n) = walk-held w n
+  pub walk-told : {at : ℕ} {ps : List Placed} {last : Step} → Walk (text_of s) at ps last → (n : ℕ) → told (state_of (nth (last_reading last) ps n)) ≡ nth (last_reading last) ps n
+  unfolding nth
+  walk-told (walk_end e) n = refl
+  walk-told (walk_open e) n = refl
+  walk-told (walk_more {p} e w) zero = ap (λ (k : ℕ). R.token k p.start p.stop) (number_again p.token.kind)
+  walk-told (walk_more e w) (suc n) = walk-told w n
 
 -- ---- any source
 
@@ -145,7 +151,8 @@ good_start s h q = by (decode (text_of s)).1 refl
 
 -- it is refused at each reading alike, or walked
 pub data Seen (s : List ℕ) : Type 0 where
-  seen_refused : (number place : ℕ) → 1 < number → ((n : ℕ) → reading s n ≡ refused number place) → Seen s
+  seen_long : ((n : ℕ) → reading s n ≡ refused 11 0) → Seen s
+  seen_bad : (place : ℕ) → ((n : ℕ) → reading s n ≡ refused 12 place) → Seen s
   seen_walked : Walked s → Seen s
 
 pub seen : (s : List ℕ) → Seen s
@@ -153,8 +160,8 @@ seen s = by_length (ltb 1048576 (length s)) refl
   where
     by_bytes : length s ≤ 1048576 → (l : List ℕ) → (decode (text_of s)).1 ≡ l → Seen s
     by_bytes h [] e = seen_walked (walked s h e)
-    by_bytes h (b ∷ l) e = seen_refused 12 (length s - length (b ∷ l)) (omega arith) (λ n. bad_reads s n h b l e)
+    by_bytes h (b ∷ l) e = seen_bad (length s - length (b ∷ l)) (λ n. bad_reads s n h b l e)
 
     by_length : (b : Bool) → ltb 1048576 (length s) ≡ b → Seen s
-    by_length true e = seen_refused 11 0 (omega arith) (λ n. long_reads s n (ltb-true _ _ e))
+    by_length true e = seen_long (λ n. long_reads s n (ltb-true _ _ e))
     by_length false e = by_bytes (ltb-false _ _ e) (decode (text_of s)).1 refl

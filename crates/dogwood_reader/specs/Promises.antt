@@ -2,28 +2,29 @@
 use Rattle.std.specs.Prelude.{ℕ, ◌≡◌, refl, List}
 use Rattle.std.proofs.Common.{sym, ap, ◌∙◌}
 use Rattle.std.specs.Borrow.{Bor}
-use Rattle.dogwood_rules.specs.Readings.{token, ended, no_end, refused}
 use Rattle.dogwood_rules.specs.Readings as R
 use Rattle.dogwood_reader.specs.declared.TokenReader.{TokenReader}
 use Rattle.dogwood_reader.specs.declared.Reading.{Reading}
 use Rattle.dogwood_reader.specs.declared.Reading.TheVariants.{Token, Ended, NoEnd, Refused}
-use Rattle.dogwood_reader.specs.Standing.{told, standing, onwards, held}
+use Rattle.dogwood_reader.specs.declared.Refusal.TheVariants.{TooLong, NotUtf8}
+use Rattle.dogwood_rows.specs.declared.kind.Kind.{Kind}
+use Rattle.dogwood_rows.specs.Kinds.{kind_at-word_of}
+use Rattle.dogwood_reader.specs.Standing.{told, state_of, standing, onwards}
 
--- `reading` and `nth_reading` say which of dogwood_rules' readings they give: `told` tells the answers apart
-abbrev answer : R.Reading → Reading
-answer (token k s e) = Token k s e
-answer ended = Ended
-answer (no_end p) = NoEnd p
-answer (refused n p) = Refused n p
-
-answer-told : (t : Reading) → answer (told t) ≡ t
-answer-told (Token k s e) = refl
+-- `nth_reading` says which of dogwood_rules' readings it gives: `told` tells the answers apart
+answer-told : (t : Reading) → state_of (told t) ≡ t
+answer-told (Token t) = ap (λ (k : Kind). Token (record { kind = k; start = t.start; end = t.end })) (kind_at-word_of t.kind)
 answer-told Ended = refl
 answer-told (NoEnd p) = refl
-answer-told (Refused n p) = refl
+answer-told (Refused TooLong) = refl
+answer-told (Refused (NotUtf8 p)) = refl
 
 pub told_only : (x : R.Reading) (t t' : Reading) → told t ≡ x → told t' ≡ x → t ≡ t'
-told_only x t t' p q = sym (answer-told t) ∙ ap answer (p ∙ sym q) ∙ answer-told t'
+told_only x t t' p q = sym (answer-told t) ∙ ap state_of (p ∙ sym q) ∙ answer-told t'
+
+-- `reading`: the reading at which the reader stands
+pub reading_only : (r : TokenReader) (t t' : Reading) → t ≡ r.state → t' ≡ r.state → t ≡ t'
+reading_only r t t' p q = p ∙ sym q
 
 -- `new`: the reader holds the source, and stands at its reading 0
 pub record Makes (src : Bor (List ℕ)) (r : TokenReader) : Type 0 where
@@ -43,8 +44,8 @@ moves_only n r r' r'' a b = λ i. record { src = (a.holds ∙ sym b.holds) i; st
 
 -- `read`: the reading at which the reader stood, and the reader at the next
 pub record Gives (r r' : TokenReader) (t : Reading) : Type 0 where
-  pub gives : told t ≡ held r.state
+  pub gives : t ≡ r.state
   pub moves : Moves 1 r r'
 
 pub gives_only : (r r' r'' : TokenReader) (t t' : Reading) → Gives r r' t → Gives r r'' t' → (r' ≡ r'') × (t ≡ t')
-gives_only r r' r'' t t' a b = (moves_only 1 r r' r'' a.moves b.moves, told_only _ t t' a.gives b.gives)
+gives_only r r' r'' t t' a b = (moves_only 1 r r' r'' a.moves b.moves, a.gives ∙ sym b.gives)

@@ -5,11 +5,10 @@ use lib.Dec.{leb, ltb}
 use mathlib.Core.Path.{◌≡◌, refl, ap, ◌∙◌}
 use mathlib.Core.List.{List, [], ◌∷◌, ◌++◌}
 use native.Mathlib.Omega.{arith}
-use lib.ListN.{length, set, drop}
+use lib.ListN.{length, drop}
 use lib.Seq.{sets, sets-eq, length-sets}
 use native.Mathlib.Nat.{zero-add}
 use borrow.Author.Tests.{lt-leb, le-leb, ltb-true, ltb-false}
-use native.Mathlib.Numerals.{towards_suc}
 use Rattle.dogwood_rules.specs.Token.{Placed, words_of}
 use Rattle.dogwood_tokens.specs.Cursor.{tokens_at}
 use Rattle.dogwood_tokens.specs.Tokens.{open_from}

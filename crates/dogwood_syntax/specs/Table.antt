@@ -1,5 +1,5 @@
 -- What the writing of the table comes to.
-use Rattle.std.specs.Prelude.{ℕ, ◌≤◌, ◌≡◌, cond, List, [], ◌∷◌, ltb, length, None, Option, Some}
+use Rattle.std.specs.Prelude.{ℕ, ◌≤◌, ◌≡◌, cond, List, ltb, length, None, Option, Some}
 use Rattle.std.proofs.lemmas.List.Edits.{sets}
 use Rattle.dogwood_rules.specs.Token.{words_of}
 use Rattle.dogwood_tokens.specs.Cursor.{tokens_at}

@@ -6,7 +6,7 @@ use mathlib.Core.List.{List}
 use native.Mathlib.Omega.{arith}
 use borrow.Author.Tests.{eqb-true, ne_eqb}
 use lib.ListN.{length, get_or}
-use lib.Dec.{eqb, ltb}
+use lib.Dec.{eqb}
 use Rattle.dogwood_rules.specs.Token.{white, letter, digit, wordly, single, double, other}
 use Rattle.utf8.specs.Utf8.{decode_at}
 use Rattle.utf8.specs.Walk.{stop, go}

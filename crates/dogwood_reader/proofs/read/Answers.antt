@@ -4,6 +4,6 @@ use Rattle.dogwood_reader.proofs.read.Goals as goal
 
 pub returns : goal.returns
 returns c = record {
-  gives = c.reading_of.ensures;
-  moves = record { holds = refl; stands = c.next_at-after.ensures ∙ one_onwards c.args.r.now.src.now c.args.r.now.state };
+  gives = refl;
+  moves = record { holds = refl; stands = c.reading_after-r.ensures ∙ one_onwards c.args.r.now.src.now c.args.r.now.state };
 }

@@ -1,7 +1,7 @@
-use mathlib.Core.Path.{refl, sym, ◌∙◌}
+use mathlib.Core.Path.{sym, ◌∙◌}
 use native.Mathlib.Omega.{arith}
 use Rattle.utf8.proofs.Inside.{inside}
-use Rattle.dogwood_scans.proofs.Run.{run_on, run_off, run_cut}
+use Rattle.dogwood_scans.proofs.Run.{run_on, run_off}
 use Rattle.dogwood_scans.proofs.runs.take_decoded.Goals as goal
 
 pub overflow_add-i : goal.overflow_add-i

@@ -7,13 +7,11 @@ use Rattle.dogwood_rules.specs.Utf8.{decode, mark_of, text_of}
 use Rattle.utf8.specs.Told.{left_at}
 use Rattle.utf8.proofs.Mark.{mark_inside, length_text, text_of_lem}
 use Rattle.dogwood_syntax.proofs.Promise.{left_inside}
-use Rattle.dogwood_reader.specs.declared.State.{State}
+use Rattle.dogwood_reader.specs.declared.Reading.TheVariants.{Refused}
+use Rattle.dogwood_reader.specs.declared.Refusal.TheVariants.{NotUtf8}
 use Rattle.dogwood_reader.proofs.Places.{long_start, bad_start, good_start}
-use Rattle.dogwood_reader.proofs.start_at.Goals as goal
+use Rattle.dogwood_reader.proofs.first_reading.Goals as goal
 use Rattle.std.specs.Prelude.{Option}
-
-abbrev refusal-of : ℕ → State
-refusal-of place = record { number = 12; kind = 0; start = place; end = place }
 
 -- what was found in the text
 found : (src : List ℕ) (m : ℕ) (r : Option ℕ) → m ≡ length (mark_of src)
@@ -22,7 +20,7 @@ found : (src : List ℕ) (m : ℕ) (r : Option ℕ) → m ≡ length (mark_of sr
 found src m r e q = ap (λ (l : List ℕ). left_at (length l) (decode l).1) (sym (text_of_lem src m e)) ∙ sym q
 
 pub returns-then-src-gt-LONGEST : goal.returns-then-src-gt-LONGEST
-returns-then-src-gt-LONGEST c = c.refusal.ensures ∙ sym (long_start c.args.src.now c.if-src-gt-LONGEST.true)
+returns-then-src-gt-LONGEST c = sym (long_start c.args.src.now c.if-src-gt-LONGEST.true)
 
 pub slice_bounds-first_bad-count : goal.slice_bounds-first_bad-count
 slice_bounds-first_bad-count c = omega (arith, mark_inside c.args.src.now, c.split_bom-mark.ensures)
@@ -30,11 +28,11 @@ slice_bounds-first_bad-count c = omega (arith, mark_inside c.args.src.now, c.spl
 pub slice_bounds-first_bad-start : goal.slice_bounds-first_bad-start
 slice_bounds-first_bad-start c = omega (arith, mark_inside c.args.src.now, c.split_bom-mark.ensures)
 
-pub overflow_add-mark : goal.overflow_add-mark
-overflow_add-mark c = omega (arith, mark_inside c.args.src.now, length_text c.args.src.now, c.split_bom-mark.ensures, left_inside (length (text_of c.args.src.now)) (decode (text_of c.args.src.now)).1 _ (found c.args.src.now c.split_bom-mark.result c.first_bad.result c.split_bom-mark.ensures c.first_bad.ensures ∙ c.in-Some.is))
+pub overflow_add-result : goal.overflow_add-result
+overflow_add-result c = omega (arith, mark_inside c.args.src.now, length_text c.args.src.now, c.split_bom-mark.ensures, left_inside (length (text_of c.args.src.now)) (decode (text_of c.args.src.now)).1 _ (found c.args.src.now c.split_bom-mark.result c.first_bad.result c.split_bom-mark.ensures c.first_bad.ensures ∙ c.in-Some.is))
 
 pub returns-in-Some : goal.returns-in-Some
-returns-in-Some c = c.refusal-in-Some.ensures ∙ ap (λ (m : ℕ). refusal-of (m + c.in-Some.i)) c.split_bom-mark.ensures ∙ sym (bad_start c.args.src.now c.if-src-gt-LONGEST.false _ (found c.args.src.now c.split_bom-mark.result c.first_bad.result c.split_bom-mark.ensures c.first_bad.ensures ∙ c.in-Some.is))
+returns-in-Some c = ap (λ (m : ℕ). Refused (NotUtf8 (m + c.in-Some.place))) c.split_bom-mark.ensures ∙ sym (bad_start c.args.src.now c.if-src-gt-LONGEST.false _ (found c.args.src.now c.split_bom-mark.result c.first_bad.result c.split_bom-mark.ensures c.first_bad.ensures ∙ c.in-Some.is))
 
-pub returns-in-None : goal.returns-in-None
-returns-in-None c = c.state_at.ensures ∙ good_start c.args.src.now c.if-src-gt-LONGEST.false (found c.args.src.now c.split_bom-mark.result c.first_bad.result c.split_bom-mark.ensures c.first_bad.ensures ∙ c.in-None.is)
+pub returns : goal.returns
+returns c = c.reading_at.ensures ∙ good_start c.args.src.now c.if-src-gt-LONGEST.false (found c.args.src.now c.split_bom-mark.result c.first_bad.result c.split_bom-mark.ensures c.first_bad.ensures ∙ c.in_default.is)

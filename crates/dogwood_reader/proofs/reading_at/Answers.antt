@@ -2,7 +2,7 @@ use mathlib.Core.Path.{sym, ◌∙◌}
 use native.Mathlib.Omega.{arith}
 use Rattle.utf8.proofs.Mark.{mark_inside}
 use Rattle.dogwood_reader.proofs.Places.{place_is}
-use Rattle.dogwood_reader.proofs.state_at.Goals as goal
+use Rattle.dogwood_reader.proofs.reading_at.Goals as goal
 
 pub slice_bounds-next-count : goal.slice_bounds-next-count
 slice_bounds-next-count c = omega (arith, mark_inside c.args.src.now, c.split_bom-mark.ensures)
