@@ -15,18 +15,11 @@ pub struct Char {
     pub len: usize,
 }
 
-// Whether lo <= x <= hi.
-fn is_within(lo: u8, x: u8, hi: u8) -> bool
-    ensures { result ≡ within lo x hi }
-{
-    if lo <= x { x <= hi } else { false }
-}
-
 // How many bytes a character has that begins with b, by the one bits that lead; 0 where none begins so.
 fn sequence(b: u8) -> usize
     ensures { result ≡ length_of b }
 {
-    let n = u8::leading_zeros(!b);
+    let n = (!b).leading_zeros();
     if n == 0 {
         return 1;
     }
@@ -39,30 +32,26 @@ fn sequence(b: u8) -> usize
     n as usize
 }
 
-// The least second byte after b.
-fn low(b: u8) -> u8
-    ensures { result ≡ low_of b }
+// A byte behind a character's first.
+#[tactic(auto, using(std::proofs::lemmas::Bool::Decides::nat_tests))]
+fn is_later(b: u8) -> bool
+    ensures { result ≡ within 0x80 b 0xBF }
 {
-    if b == 0xE0 {
-        return 0xA0;
-    }
-    if b == 0xF0 {
-        return 0x90;
-    }
-    0x80
+    matches!(b, 0x80..=0xBF)
 }
 
-// The greatest second byte after b.
-fn high(b: u8) -> u8
-    ensures { result ≡ high_of b }
+// The second byte of a character of three or four: the first byte a narrows its range.
+#[tactic(auto, using(std::proofs::lemmas::Bool::Decides::nat_tests), unfolding(crate::specs::Utf8::low_of, crate::specs::Utf8::high_of))]
+fn is_second(a: u8, b: u8) -> bool
+    ensures { result ≡ within (low_of a) b (high_of a) }
 {
-    if b == 0xED {
-        return 0x9F;
+    match a {
+        0xE0 => matches!(b, 0xA0..=0xBF),
+        0xED => matches!(b, 0x80..=0x9F),
+        0xF0 => matches!(b, 0x90..=0xBF),
+        0xF4 => matches!(b, 0x80..=0x8F),
+        _ => is_later(b),
     }
-    if b == 0xF4 {
-        return 0x8F;
-    }
-    0xBF
 }
 
 // The byte at i, or 0 past the end.
@@ -72,49 +61,46 @@ pub fn byte(s: &[u8], i: usize) -> u8
     if i < s.len() { s[i] } else { 0 }
 }
 
+#[tactic(auto, using(std::proofs::lemmas::Bool::Decides::nat_tests), unfolding(crate::specs::Utf8::two_of))]
 fn two(a: u8, b: u8) -> Option<Char>
     ensures { result ≡ two_of a b }
 {
-    if is_within(0x80, b, 0xBF) {
-        return Some(Char {
-            code: (a % 32) as u32 * 64 + (b % 64) as u32,
-            len: 2,
-        });
+    if !is_later(b) {
+        return None;
     }
-    None
+    Some(Char {
+        code: u32::from(a % 32) * 64 + u32::from(b % 64),
+        len: 2,
+    })
 }
 
+#[tactic(auto, using(std::proofs::lemmas::Bool::Decides::nat_tests), unfolding(crate::specs::Utf8::three_of))]
 fn three(a: u8, b: u8, c: u8) -> Option<Char>
     ensures { result ≡ three_of a b c }
 {
-    if is_within(low(a), b, high(a)) {
-        if is_within(0x80, c, 0xBF) {
-            return Some(Char {
-                code: (a % 16) as u32 * 4096 + (b % 64) as u32 * 64 + (c % 64) as u32,
-                len: 3,
-            });
-        }
+    if !(is_second(a, b) && is_later(c)) {
+        return None;
     }
-    None
+    Some(Char {
+        code: u32::from(a % 16) * 4096 + u32::from(b % 64) * 64 + u32::from(c % 64),
+        len: 3,
+    })
 }
 
+#[tactic(auto, using(std::proofs::lemmas::Bool::Decides::nat_tests), unfolding(crate::specs::Utf8::four_of))]
 fn four(a: u8, b: u8, c: u8, d: u8) -> Option<Char>
     ensures { result ≡ four_of a b c d }
 {
-    if is_within(low(a), b, high(a)) {
-        if is_within(0x80, c, 0xBF) {
-            if is_within(0x80, d, 0xBF) {
-                return Some(Char {
-                    code: (a % 8) as u32 * 262144
-                        + (b % 64) as u32 * 4096
-                        + (c % 64) as u32 * 64
-                        + (d % 64) as u32,
-                    len: 4,
-                });
-            }
-        }
+    if !(is_second(a, b) && is_later(c) && is_later(d)) {
+        return None;
     }
-    None
+    Some(Char {
+        code: u32::from(a % 8) * 262144
+            + u32::from(b % 64) * 4096
+            + u32::from(c % 64) * 64
+            + u32::from(d % 64),
+        len: 4,
+    })
 }
 
 // The character at a place, with its length, or that none stands there.
@@ -125,23 +111,16 @@ pub fn decode(s: &[u8], at: usize) -> Option<Char>
         return None;
     }
     let a = byte(s, at);
-    let n = sequence(a);
-    if n == 1 {
-        return Some(Char {
-            code: a as u32,
+    match sequence(a) {
+        1 => Some(Char {
+            code: u32::from(a),
             len: 1,
-        });
+        }),
+        2 => two(a, byte(s, at + 1)),
+        3 => three(a, byte(s, at + 1), byte(s, at + 2)),
+        4 => four(a, byte(s, at + 1), byte(s, at + 2), byte(s, at + 3)),
+        _ => None,
     }
-    if n == 2 {
-        return two(a, byte(s, at + 1));
-    }
-    if n == 3 {
-        return three(a, byte(s, at + 1), byte(s, at + 2));
-    }
-    if n == 4 {
-        return four(a, byte(s, at + 1), byte(s, at + 2), byte(s, at + 3));
-    }
-    None
 }
 
 // Whether the 16 bytes from a place on are below 128.
