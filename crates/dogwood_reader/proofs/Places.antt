@@ -5,7 +5,7 @@ use mathlib.Core.Bool.{Bool, true, false}
 use mathlib.Core.List.{List, [], ◌∷◌}
 use native.Mathlib.Omega.{arith}
 use borrow.Author.Tests.{ltb-true, ltb-false}
-use lib.ListN.{length, take, drop}
+use lib.ListN.{length}
 use lib.Dec.{ltb}
 use Rattle.dogwood_rules.specs.Utf8.{decode, byte_length, mark_of, text_of}
 use Rattle.dogwood_rules.specs.Token.{Placed, placed, tokenise}
@@ -15,7 +15,6 @@ use Rattle.dogwood_rules.specs.Readings.{nth, reading_of, reading, ended, no_end
 use Rattle.dogwood_rules.specs.Readings as R
 use Rattle.dogwood_rules.proofs.Sources.{source_long, source_bad, source_open, source_cut}
 use Rattle.utf8.specs.Told.{left_at}
-use Rattle.utf8.proofs.Mark.{text_of_lem}
 use Rattle.dogwood_tokens.specs.declared.cursor.Step.{Step}
 use Rattle.dogwood_tokens.specs.declared.cursor.Step.TheVariants as S
 use Rattle.dogwood_tokens.specs.Cursor.{next_of, last_of, Walk, walk_end, walk_open, walk_more}
@@ -32,9 +31,9 @@ use Rattle.dogwood_reader.specs.Standing.{told, state_of, standing, step_state, 
 use Rattle.std.specs.Prelude.{None, Some}
 
 -- what the code finds behind the mark
-pub place_is : (s : List ℕ) (m at : ℕ) {x : Step} → m ≡ length (mark_of s) → next_of (take (length s - m) (drop m s)) at ≡ x → step_state x ≡ place_of s at
+pub place_is : (s text : List ℕ) (at : ℕ) {x : Step} → text ≡ text_of s → next_of text at ≡ x → step_state x ≡ place_of s at
 unfolding place_of
-place_is s m at e q = ap step_state (sym q) ∙ ap (λ (l : List ℕ). step_state (next_of l at)) (text_of_lem s m e)
+place_is s text at e q = ap step_state (sym q) ∙ ap (λ (l : List ℕ). step_state (next_of l at)) e
 
 from_source : (s : List ℕ) (n : ℕ) {x : Source} → source_of s ≡ x → reading s n ≡ reading_of x n
 unfolding reading

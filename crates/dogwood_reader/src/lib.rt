@@ -30,8 +30,8 @@ pub enum Reading {
 fn reading_at(src: &[u8], at: usize) -> Reading
     ensures { result ≡ place_of src.now at }
 {
-    let mark = utf8::split_bom(src);
-    match (Cursor { at }).next(&src[mark..]) {
+    let (_, text) = utf8::split_bom(src);
+    match (Cursor { at }).next(text) {
         Step::Token(token, _) => Reading::Token(token),
         Step::Unended(place) => Reading::NoEnd(place),
         Step::Ended => Reading::Ended,
@@ -45,9 +45,9 @@ fn first_reading(src: &[u8]) -> Reading
     if LONGEST < src.len() {
         return Reading::Refused(Refusal::TooLong);
     }
-    let mark = utf8::split_bom(src);
-    if let Some(place) = utf8::first_bad(&src[mark..]) {
-        return Reading::Refused(Refusal::NotUtf8(mark + place));
+    let (mark, text) = utf8::split_bom(src);
+    if let Some(place) = utf8::first_bad(text) {
+        return Reading::Refused(Refusal::NotUtf8(mark.len() + place));
     }
     reading_at(src, 0)
 }

@@ -46,9 +46,9 @@ pub fn tokenize(src: &[u8], table: &mut [u32]) -> Result<usize, NotTokenized>
     if LONGEST < src.len() {
         return Err(NotTokenized::TooLong);
     }
-    let start = utf8::split_bom(src);
-    if let Some(place) = utf8::first_bad(&src[start..]) {
-        return Err(NotTokenized::NotUtf8(start + place));
+    let (mark, text) = utf8::split_bom(src);
+    if let Some(place) = utf8::first_bad(text) {
+        return Err(NotTokenized::NotUtf8(mark.len() + place));
     }
-    tokenize_text(&src[start..], table)
+    tokenize_text(text, table)
 }

@@ -1,9 +1,10 @@
 -- The laws of `bad_from`: what it comes to at a place, by what stands there.
-use Prim.Native.Nat.{ℕ, ◌+◌, ◌<◌, ◌≤◌}
-use mathlib.Core.Path.{◌≡◌, refl}
+use Prim.Native.Nat.{ℕ, zero, suc, ◌+◌, ◌<◌, ◌≤◌}
+use mathlib.Core.Path.{◌≡◌, refl, sym, ap, ◌∙◌}
 use mathlib.Core.Bool.{Bool, true, false, cond}
 use mathlib.Core.List.{List}
 use native.Mathlib.Omega.{arith}
+use native.Mathlib.Nat.{add-zero}
 use borrow.Author.Tests.{lt-ltb, le-ltb}
 use lib.ListN.{length, get_or}
 use lib.Dec.{ltb}
@@ -40,3 +41,10 @@ bad_end s i l = from_stop (bad_step s) (λ u r. r) None (length s) i (simp (le-l
 -- a byte below 128 is a character
 pub bad_ascii : (s : List ℕ) (i : ℕ) → i < length s → get_or s i 0 < 128 → bad_from s i ≡ bad_from s (i + 1)
 bad_ascii s i l h = bad_char s i l (plain s i (get_or s i 0) l refl h)
+
+-- bytes below 128 are characters, one behind the other
+pub bad_run : (s : List ℕ) (i n : ℕ) → i + n ≤ length s → ((k : ℕ) → k < n → get_or s (i + k) 0 < 128) → bad_from s (i + n) ≡ bad_from s i
+bad_run s i zero l h = ap (bad_from s) (add-zero i)
+bad_run s i (suc n) l h =
+    let e : i + suc n ≡ i + n + 1 = omega arith in
+    ap (bad_from s) e ∙ sym (bad_ascii s (i + n) (omega arith) (h n (omega arith))) ∙ bad_run s i n (omega arith) (λ k m. h k (omega arith))

@@ -2,7 +2,7 @@
 #![tactic(auto)]
 
 ghost use Rattle.std.specs.Prelude.{◌≡◌, ◌+◌, ◌≤◌, true, length, get_or};
-ghost use Rattle.dogwood_rules.specs.Utf8.{mark_of};
+ghost use Rattle.dogwood_rules.specs.Utf8.{mark_of, text_of};
 ghost use Rattle.dogwood_rules.specs.Utf8.{decode};
 ghost use Rattle.utf8.specs.Told.{left_at};
 ghost use Rattle.utf8.specs.Valid.{bad_from};
@@ -123,31 +123,16 @@ pub fn decode(s: &[u8], at: usize) -> Option<Char>
     }
 }
 
-// Whether the 16 bytes from a place on are below 128.
-fn is_ascii(s: &[u8], at: usize) -> bool
-    requires { at + 16 ≤ length s.now }
-    ensures { result ≡ true → bad_from s.now (at + 16) ≡ bad_from s.now at }
-{
-    let mut all = true;
-    for i in at..at + 16 {
-        all = all & (s[i] < 0x80);
-    }
-    all
-}
+// How many bytes are tried at once for being below 128.
+const STRIDE: usize = 16;
 
 // A place behind bytes below 128, each of which is a character.
 fn ascii_end(s: &[u8], at: usize) -> usize
     ensures { (at ≤ result) × (bad_from s.now result ≡ bad_from s.now at) }
 {
     let mut i = at;
-    while i < s.len() {
-        if s.len() - i < 16 {
-            return i;
-        }
-        if !is_ascii(s, i) {
-            return i;
-        }
-        i += 16;
+    while i < s.len() && STRIDE <= s.len() - i && s[i..i + STRIDE].is_ascii() {
+        i += STRIDE;
     }
     i
 }
@@ -170,12 +155,15 @@ pub fn first_bad(s: &[u8]) -> Option<usize>
     None
 }
 
-// How long the byte-order mark is that a source begins with: the text is what follows it.
-pub fn split_bom(src: &[u8]) -> usize
-    ensures { result ≡ length (mark_of src.now) }
+const MARK: [u8; 3] = [0xEF, 0xBB, 0xBF];
+
+// The byte-order mark that a source begins with, if any, and the text behind it.
+pub fn split_bom(src: &[u8]) -> (&[u8], &[u8])
+    ensures mark { result.0.now ≡ mark_of src.now }
+    ensures text { result.1.now ≡ text_of src.now }
 {
-    if (byte(src, 0) == 0xEF) & (byte(src, 1) == 0xBB) & (byte(src, 2) == 0xBF) {
-        return 3;
+    if src.starts_with(&MARK) {
+        return src.split_at(MARK.len());
     }
-    0
+    src.split_at(0)
 }

@@ -1,33 +1,17 @@
-use mathlib.Core.Path.{refl, ◌∙◌}
+use Prim.Native.Nat.{ℕ, ◌+◌, ◌-◌, ◌<◌}
+use mathlib.Core.Path.{◌∙◌, subst}
 use native.Mathlib.Omega.{arith}
+use lib.ListN.{get_or, drop}
+use Rattle.std.proofs.lemmas.List.{get_or-take, get_or-drop}
+use Rattle.utf8.proofs.Valid.{bad_run}
 use Rattle.utf8.proofs.ascii_end.Goals as goal
 
-pub loop-i-init : goal.loop-i-init
-loop-i-init c = (omega arith, refl)
-
-pub overflow_sub-s : goal.overflow_sub-s
-overflow_sub-s c = omega arith
-
-pub returns-then-s-i-lt16 : goal.returns-then-s-i-lt16
-returns-then-s-i-lt16 c = c.loop-i.invariant
-
-pub is_ascii-requires : goal.is_ascii-requires
-is_ascii-requires c = omega arith
-
-pub returns-then-not-is_ascii : goal.returns-then-not-is_ascii
-returns-then-not-is_ascii c = c.loop-i.invariant
-
-pub overflow_add-i : goal.overflow_add-i
-overflow_add-i c = omega arith
-
-pub loop-i-smaller : goal.loop-i-smaller
-loop-i-smaller c = omega arith
-
 pub loop-i-preserved : goal.loop-i-preserved
-loop-i-preserved c = (
-  omega arith,
-  c.is_ascii.ensures c.if-not-is_ascii.false ∙ c.loop-i.invariant.1,
-)
-
-pub returns : goal.returns
-returns c = c.loop-i.invariant
+loop-i-preserved c =
+    let s = c.args.s.now in
+    let i = c.loop-i.i in
+    let below : (k : ℕ) → k < 16 → get_or s (i + k) 0 < 128 =
+    λ k m.
+    let e = get_or-take (i + 16 - i) (drop i s) k 0 (omega arith) ∙ get_or-drop i s k 0 in
+    subst (λ (x : ℕ). x < 128) e (c.if-is_ascii.ensures.cases k) in
+    (omega arith, bad_run s i 16 (omega arith) below ∙ c.loop-i.invariant.1)
