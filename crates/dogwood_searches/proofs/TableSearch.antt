@@ -2,7 +2,7 @@
 use Rattle.std.specs.Prelude.{None, Some, if◌then◌else◌}
 use mathlib.Core.Path.{◌≡◌, refl, sym, ◌∙◌, ap}
 use mathlib.Core.Bool.{Bool, true, false}
-use mathlib.Core.List.{List}
+use mathlib.Core.List.{List, ◌∷◌}
 use mathlib.Core.Option.{Option as Maybe, none, some}
 use Prim.Native.Nat.{ℕ, suc, ◌+◌, ◌*◌, ◌-◌, ◌<◌, ◌≤◌}
 use native.Mathlib.Omega.{arith}
@@ -51,34 +51,34 @@ module _ (text ws : List ℕ) (d i : ℕ) where
   deep_done e = few (λ (l : List ℕ). none ≡ deep_in text d l) refl (λ k. refl) (λ k s. refl) i (drop i ws) e
 
   -- behind a token that begins with the byte first, which is an opener, a closer, or neither
-  module _ {r : Row} (t : Stands ws i r) {first : ℕ} (f : first ≡ get_or text r.start 0) where
+  module _ {k s e : ℕ} {us : List ℕ} (t : drop i ws ≡ k ∷ s ∷ e ∷ us) {first : ℕ} (f : first ≡ get_or text s 0) where
     abbrev turn : Bool → Bool → Maybe ℕ
     turn o c =
-        if o then if eqb d 64 then some r.start else deep_in text (suc d) (drop r.next ws)
-        else if c then deep_in text (d - 1) (drop r.next ws)
-        else deep_in text d (drop r.next ws)
+        if o then if eqb d 64 then some s else deep_in text (suc d) us
+        else if c then deep_in text (d - 1) us
+        else deep_in text d us
 
-    turned : {o c : Bool} → o ≡ opening r.kind first → c ≡ closing r.kind first → turn o c ≡ deep_in text d (drop i ws)
+    turned : {o c : Bool} → o ≡ opening k first → c ≡ closing k first → turn o c ≡ deep_in text d (drop i ws)
     unfolding deep_in
-    turned o c = (λ j. turn (o j) (c j)) ∙ (λ j. turn (opening r.kind (f j)) (closing r.kind (f j))) ∙ ap (deep_in text d) (sym t.words)
+    turned o c = (λ x. turn (o x) (c x)) ∙ (λ x. turn (opening k (f x)) (closing k (f x))) ∙ ap (deep_in text d) (sym t)
 
-    module _ (o : true ≡ opening r.kind first) where
-      pub deep_here : d ≡ 64 → some r.start ≡ deep_in text d (drop i ws)
-      deep_here e = let g : turn true (closing r.kind first) ≡ some r.start = simp (eq-eqb d 64 e) in sym g ∙ turned o refl
+    module _ (o : true ≡ opening k first) where
+      pub deep_here : d ≡ 64 → some s ≡ deep_in text d (drop i ws)
+      deep_here e = let g : turn true (closing k first) ≡ some s = simp (eq-eqb d 64 e) in sym g ∙ turned o refl
 
-      pub deep_open : (d ≡ 64 → ⊥) → deep_in text (d + 1) (drop r.next ws) ≡ deep_in text d (drop i ws)
+      pub deep_open : (d ≡ 64 → ⊥) → deep_in text (d + 1) us ≡ deep_in text d (drop i ws)
       deep_open e =
-          let g : turn true (closing r.kind first) ≡ deep_in text (suc d) (drop r.next ws) = simp (ne_eqb d 64 e) in
-          ap (λ (m : ℕ). deep_in text m (drop r.next ws)) (more d) ∙ sym g ∙ turned o refl
+          let g : turn true (closing k first) ≡ deep_in text (suc d) us = simp (ne_eqb d 64 e) in
+          ap (λ (m : ℕ). deep_in text m us) (more d) ∙ sym g ∙ turned o refl
         where
           more : (d : ℕ) → d + 1 ≡ suc d
           more d = omega arith
 
-    module _ (o : false ≡ opening r.kind first) where
-      pub deep_close : true ≡ closing r.kind first → {m : ℕ} → m ≡ d - 1 → deep_in text m (drop r.next ws) ≡ deep_in text d (drop i ws)
-      deep_close c e = ap (λ (m : ℕ). deep_in text m (drop r.next ws)) e ∙ turned o c
+    module _ (o : false ≡ opening k first) where
+      pub deep_close : true ≡ closing k first → {m : ℕ} → m ≡ d - 1 → deep_in text m us ≡ deep_in text d (drop i ws)
+      deep_close c e = ap (λ (m : ℕ). deep_in text m us) e ∙ turned o c
 
-      pub deep_on : false ≡ closing r.kind first → deep_in text d (drop r.next ws) ≡ deep_in text d (drop i ws)
+      pub deep_on : false ≡ closing k first → deep_in text d us ≡ deep_in text d (drop i ws)
       deep_on c = turned o c
 
 -- Record by record -----------------------------------------------------------------------------------------------------

@@ -4,7 +4,7 @@ ghost use Rattle.dogwood_words.specs.Search.{found_of};
 ghost use Rattle.dogwood_searches.specs.Searches.{comment_before};
 ghost use Rattle.dogwood_searches.specs.Promises.{CommentIs, NothingIs, DeepIs};
 
-use dogwood_rows::Kind;
+use dogwood_rows::{Kind, WORDS};
 use dogwood_words::{closes, opens, record_at, row_at, skip};
 
 // The nesting that is allowed.
@@ -55,17 +55,16 @@ pub fn nothing_there(text: &[u8], table: &[u32], outline: &[u32]) -> bool
 pub fn deep_opener(text: &[u8], table: &[u32]) -> Option<usize>
     ensures { DeepIs text.now table.now result }
 {
-    let mut i: usize = 0;
     let mut depth: usize = 0;
-    while let Some(row) = row_at(table, i) {
-        let first = utf8::byte(text, row.start);
-        i = row.next;
-        if opens(row.kind, first) {
+    for [kind, start, _] in table.as_chunks::<WORDS>().0 {
+        let start = *start as usize;
+        let first = utf8::byte(text, start);
+        if opens(*kind, first) {
             if depth == DEEPEST {
-                return Some(row.start);
+                return Some(start);
             }
             depth += 1;
-        } else if closes(row.kind, first) {
+        } else if closes(*kind, first) {
             depth = depth.saturating_sub(1);
         }
     }

@@ -3,3 +3,4 @@ pub mod Founds
 pub mod RowSteps
 pub mod GapSteps
 pub mod Words
+pub mod Chunks
