@@ -1,23 +1,23 @@
 -- What the functions of this crate promise. Each promise is one equation, and no second answer keeps it.
-use Rattle.std.specs.Prelude.{◌≡◌, cond, List, [], ◌∷◌, ℕ, ◌+◌, ◌-◌, ◌*◌, ◌/◌, leb, length, take}
+use Rattle.std.specs.Prelude.{◌≡◌, cond, List, [], ◌∷◌, Option, ℕ, ◌+◌, ◌-◌, ◌*◌, ◌/◌, leb, length, take}
 use Rattle.std.proofs.Common.{sym, ◌∙◌}
 use Rattle.std.proofs.lemmas.List.Edits.{sets}
 use Rattle.dogwood_rules.specs.Token.{row_size}
-use Rattle.dogwood_rows.specs.declared.cursor.Step.{Step}
+use Rattle.dogwood_rows.specs.declared.cursor.Row.{Row}
 use Rattle.dogwood_rows.specs.Rows.{step_at, back_at, end_of, between, inside}
 
 -- r is the row at a place, with the place behind it
-abbrev pub StepIs : List ℕ → ℕ → Step → Type 0
+abbrev pub StepIs : List ℕ → ℕ → Option (Row × ℕ) → Type 0
 StepIs table at r = r ≡ step_at table at
 
-pub step_only : (table : List ℕ) (at : ℕ) (r r' : Step) → StepIs table at r → StepIs table at r' → r ≡ r'
+pub step_only : (table : List ℕ) (at : ℕ) (r r' : Option (Row × ℕ)) → StepIs table at r → StepIs table at r' → r ≡ r'
 step_only table at r r' p q = p ∙ sym q
 
 -- r is the row before a place, with its own place
-abbrev pub BackIs : List ℕ → ℕ → Step → Type 0
+abbrev pub BackIs : List ℕ → ℕ → Option (Row × ℕ) → Type 0
 BackIs table at r = r ≡ back_at table at
 
-pub back_only : (table : List ℕ) (at : ℕ) (r r' : Step) → BackIs table at r → BackIs table at r' → r ≡ r'
+pub back_only : (table : List ℕ) (at : ℕ) (r r' : Option (Row × ℕ)) → BackIs table at r → BackIs table at r' → r ≡ r'
 back_only table at r r' p q = p ∙ sym q
 
 -- r is the place behind the last row

@@ -1,38 +1,31 @@
 -- The rows of any words; words left over at the end are no row. A place is a number of words.
-use Rattle.std.specs.Prelude.{List, [], ◌∷◌, ℕ, ◌+◌, ◌-◌, ◌*◌, ltb, length, take, drop, if◌then◌else◌}
+use Rattle.std.specs.Prelude.{List, [], ◌∷◌, Option, None, Some, ℕ, ◌+◌, ◌-◌, ◌*◌, ltb, length, take, drop, if◌then◌else◌}
 use Rattle.dogwood_rules.specs.Token.{row_size}
-use Rattle.dogwood_rows.specs.declared.cursor.Step.{Step}
-use Rattle.dogwood_rows.specs.declared.cursor.Step.TheVariants.{Row, Ended}
-
--- a token's kind, and its bounds in the text
-pub record Entry : Type 0 where
-  pub kind : ℕ
-  pub start : ℕ
-  pub end : ℕ
+use Rattle.dogwood_rows.specs.declared.cursor.Row.{Row}
 
 -- what `words_of` of the rules writes, read again
-unfoldable pub rows_of : List ℕ → List Entry
+unfoldable pub rows_of : List ℕ → List Row
 rows_of [] = []
 rows_of (k ∷ []) = []
 rows_of (k ∷ s ∷ []) = []
 rows_of (k ∷ s ∷ e ∷ ws) = record { kind = k; start = s; end = e } ∷ rows_of ws
 
 -- the rows from a place on
-unfoldable pub rows_at : List ℕ → ℕ → List Entry
+unfoldable pub rows_at : List ℕ → ℕ → List Row
 rows_at ws i = rows_of (drop i ws)
 
 -- the first of some rows, with a place to go on from
-abbrev pub step_of : ℕ → List Entry → Step
-step_of i [] = Ended
-step_of i (r ∷ rs) = Row r.kind r.start r.end i
+abbrev pub step_of : ℕ → List Row → Option (Row × ℕ)
+step_of i [] = None
+step_of i (r ∷ rs) = Some (r, i)
 
 -- the row at a place, with the place behind it
-unfoldable pub step_at : List ℕ → ℕ → Step
+unfoldable pub step_at : List ℕ → ℕ → Option (Row × ℕ)
 step_at ws i = step_of (i + row_size) (rows_at ws i)
 
 -- the row before a place, with its own place
-unfoldable pub back_at : List ℕ → ℕ → Step
-back_at ws i = if ltb i row_size then Ended else step_of (i - row_size) (rows_at ws (i - row_size))
+unfoldable pub back_at : List ℕ → ℕ → Option (Row × ℕ)
+back_at ws i = if ltb i row_size then None else step_of (i - row_size) (rows_at ws (i - row_size))
 
 -- the place behind the last row
 unfoldable pub end_of : List ℕ → ℕ

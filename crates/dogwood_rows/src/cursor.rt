@@ -3,39 +3,40 @@ ghost use Rattle.dogwood_rows.specs.Promises.{StepIs, BackIs, EndIs, CountIs};
 
 use crate::WORDS;
 
-// A row's kind, start and end, and the place to go on from; or no row.
+// A token's kind, and its bounds in the text.
 #[derive(Clone, Copy)]
-pub enum Step {
-    Row(u32, u32, u32, usize),
-    Ended,
+pub struct Row {
+    pub kind: u32,
+    pub start: u32,
+    pub end: u32,
 }
 
 // The row at a place, with the place behind it.
-pub fn next(table: &[u32], at: usize) -> Step
+pub fn next(table: &[u32], at: usize) -> Option<(Row, usize)>
     ensures { StepIs table.now at result }
 {
     // in this order only one test a row is left in a loop: the other two do not change there
     if table.len() < WORDS {
-        return Step::Ended;
+        return None;
     }
     if table.len() - WORDS < at {
-        return Step::Ended;
+        return None;
     }
-    Step::Row(table[at], table[at + 1], table[at + 2], at + WORDS)
+    let row = Row {
+        kind: table[at],
+        start: table[at + 1],
+        end: table[at + 2],
+    };
+    Some((row, at + WORDS))
 }
 
 // The row before a place, with its own place.
-pub fn back(table: &[u32], at: usize) -> Step
+pub fn back(table: &[u32], at: usize) -> Option<(Row, usize)>
     ensures { BackIs table.now at result }
 {
-    if at < WORDS {
-        return Step::Ended;
-    }
-    let before = at - WORDS;
-    let Step::Row(kind, start, end, _) = next(table, before) else {
-        return Step::Ended;
-    };
-    Step::Row(kind, start, end, before)
+    let before = at.checked_sub(WORDS)?;
+    let (row, _) = next(table, before)?;
+    Some((row, before))
 }
 
 // The place behind the last row.

@@ -6,7 +6,7 @@ mod kind;
 mod parts;
 mod writing;
 
-pub use cursor::{Step, back, count, end, next};
+pub use cursor::{Row, back, count, end, next};
 pub use kind::Kind;
 pub use parts::{between, first_rows, inside};
 pub use writing::put_row;

@@ -1,106 +1,78 @@
 -- A table's words, row by row.
+use Rattle.std.specs.Prelude.{Option, None, Some}
 use mathlib.Core.Path.{◌≡◌, refl, sym, ◌∙◌, ap}
-use mathlib.Core.Bool.{Bool, true, false}
 use mathlib.Core.List.{List, [], ◌∷◌}
-use Prim.Native.Nat.{ℕ, ◌+◌, ◌-◌, ◌<◌, ◌≤◌}
+use Prim.Native.Nat.{ℕ, ◌+◌, ◌<◌, ◌≤◌}
 use native.Mathlib.Omega.{arith}
-use native.Mathlib.Numerals.{towards_suc}
-use lib.Dec.{leb}
-use lib.ListN.{length, get_or, drop, length-drop}
-use lib.Seq.{drop-cons}
-use borrow.Author.Tests.{leb-true, leb-false, lt-ltb, le-ltb}
+use lib.ListN.{length, drop, length-drop}
+use lib.Seq.{drop-drop}
+use borrow.Author.Tests.{lt-ltb, le-ltb}
+use Rattle.dogwood_rows.specs.declared.cursor.Row.{Row as Entry}
+use Rattle.dogwood_rows.specs.Rows.{rows_of, rows_at, step_of, step_at}
 use Rattle.dogwood_words.specs.declared.rows.Row.{Row}
-use Rattle.dogwood_words.specs.declared.rows.Row.TheVariants.{Token, Ended}
 use Rattle.dogwood_words.specs.Rows.{row_of, skip_in}
+use Rattle.dogwood_words.proofs.Founds.{none_some, some_same}
+
+-- a row of the cursor as `row_at` gives it
+abbrev pub row_from : Option (Entry × ℕ) → Option Row
+row_from None = None
+row_from (Some (r, n)) = Some (record { kind = r.kind; start = r.start; next = n })
+
+-- what `row_at` reads
+pub row_at_lem : (ws : List ℕ) (i : ℕ) → row_from (step_at ws i) ≡ row_of i (drop i ws)
+unfolding step_at rows_at rows_of
+row_at_lem ws i = by (drop i ws)
+  where
+    by : (ws : List ℕ) → row_from (step_of (i + 3) (rows_of ws)) ≡ row_of i ws
+    by [] = refl
+    by (k ∷ []) = refl
+    by (k ∷ s ∷ []) = refl
+    by (k ∷ s ∷ e ∷ ws) = refl
 
 -- what holds of each list that is no whole row
-pub few : (P : List ℕ → Type 0) → P [] → ((k : ℕ) → P (k ∷ [])) → ((k s : ℕ) → P (k ∷ s ∷ [])) → (ws : List ℕ) → length ws < 3 → P ws
-few P a b c [] h = a
-few P a b c (k ∷ []) h = b k
-few P a b c (k ∷ s ∷ []) h = c k s
-few P a b c (k ∷ s ∷ e ∷ ws) h = absurd (omega arith)
+pub few : (P : List ℕ → Type 0) → P [] → ((k : ℕ) → P (k ∷ [])) → ((k s : ℕ) → P (k ∷ s ∷ [])) → (i : ℕ) (ws : List ℕ) → None ≡ row_of i ws → P ws
+few P a b c i [] h = a
+few P a b c i (k ∷ []) h = b k
+few P a b c i (k ∷ s ∷ []) h = c k s
+few P a b c i (k ∷ s ∷ e ∷ ws) h = none_some h
 
-row_few : (ws : List ℕ) → length ws < 3 → row_of ws ≡ Ended
-row_few = few (λ (ws : List ℕ). row_of ws ≡ Ended) refl (λ k. refl) (λ k s. refl)
+-- what stands where it reads a row
+pub record Stands (ws : List ℕ) (i : ℕ) (r : Row) : Type 0 where
+  pub end : ℕ
+  pub words : drop i ws ≡ r.kind ∷ r.start ∷ end ∷ drop r.next ws
+  pub on : r.next ≡ i + 3
+  pub inside : r.next ≤ length ws
 
-abbrev kind_in : Row → ℕ
-kind_in (Token k s) = k
-kind_in Ended = 0
-
-abbrev start_in : Row → ℕ
-start_in (Token k s) = s
-start_in Ended = 0
-
-abbrev is_token : Row → ℕ
-is_token (Token k s) = 1
-is_token Ended = 0
-
-module _ (ws : List ℕ) (i : ℕ) where
-  one : (k : ℕ) → k < length ws → drop k ws ≡ get_or ws k 0 ∷ drop (k + 1) ws
-  one k h = drop-cons ws k 0 h ∙ simp towards_suc
-
-  three : i + 3 ≤ length ws → drop i ws ≡ get_or ws i 0 ∷ get_or ws (i + 1) 0 ∷ get_or ws (i + 2) 0 ∷ drop (i + 3) ws
-  three h =
-      one i (omega arith)
-      ∙ ap (λ (l : List ℕ). get_or ws i 0 ∷ l) (one (i + 1) (omega arith)
-      ∙ ap (λ (l : List ℕ). get_or ws (i + 1) 0 ∷ l) (at 2 (i + 1) (omega arith) ∙ one (i + 2) (omega arith)
-      ∙ ap (λ (l : List ℕ). get_or ws (i + 2) 0 ∷ l) (at 3 (i + 2) (omega arith))))
-    where
-      at : (n k : ℕ) → k + 1 ≡ i + n → drop (k + 1) ws ≡ drop (i + n) ws
-      at n k e = ap (λ (m : ℕ). drop m ws) e
-
-  -- what `row_at` reads
-  pub row_none : length ws ≤ i → row_of (drop i ws) ≡ Ended
-  row_none h = row_few (drop i ws) (let l = length-drop i ws in omega arith)
-
-  pub row_less : length ws - i < 3 → row_of (drop i ws) ≡ Ended
-  row_less h = row_few (drop i ws) (let l = length-drop i ws in omega arith)
-
-  pub row_whole : i + 3 ≤ length ws → row_of (drop i ws) ≡ Token (get_or ws i 0) (get_or ws (i + 1) 0)
-  row_whole h = ap row_of (three h)
-
-  -- what stands where it reads a row
-  pub record Stands (kind start : ℕ) : Type 0 where
-    pub end : ℕ
-    pub words : drop i ws ≡ kind ∷ start ∷ end ∷ drop (i + 3) ws
-    pub inside : i + 3 ≤ length ws
-
-  pub row_stands : {k s : ℕ} → row_of (drop i ws) ≡ Token k s → Stands k s
-  row_stands {k} {s} e = by (leb (i + 3) (length ws)) refl
-    where
-      by : (b : Bool) → leb (i + 3) (length ws) ≡ b → Stands k s
-      by true q =
-          let h = leb-true (i + 3) (length ws) q in
-          let r = sym (row_whole h) ∙ e in
-          record {
-            end = get_or ws (i + 2) 0;
-            words = three h ∙ (λ j. ap kind_in r j ∷ ap start_in r j ∷ get_or ws (i + 2) 0 ∷ drop (i + 3) ws);
-            inside = h;
-          }
-      by false q =
-          let h = leb-false (i + 3) (length ws) q in
-          absurd (let z : ◌≡◌ {A = ℕ} 0 1 = ap is_token (sym (row_few (drop i ws) (let l = length-drop i ws in omega arith)) ∙ e) in omega arith)
-
-  -- .. and where it reads none
-  pub row_ended : row_of (drop i ws) ≡ Ended → length (drop i ws) < 3
-  row_ended e = by (leb (i + 3) (length ws)) refl
-    where
-      by : (b : Bool) → leb (i + 3) (length ws) ≡ b → length (drop i ws) < 3
-      by true q = absurd (let z : ◌≡◌ {A = ℕ} 1 0 = ap is_token (sym (row_whole (leb-true (i + 3) (length ws) q)) ∙ e) in omega arith)
-      by false q = let h = leb-false (i + 3) (length ws) q in let l = length-drop i ws in omega arith
+pub row_stands : (ws : List ℕ) (i : ℕ) {r : Row} → Some r ≡ row_of i (drop i ws) → Stands ws i r
+row_stands ws i {r} e = by (drop i ws) refl e
+  where
+    by : (l : List ℕ) → drop i ws ≡ l → Some r ≡ row_of i l → Stands ws i r
+    by [] q z = none_some (sym z)
+    by (k ∷ []) q z = none_some (sym z)
+    by (k ∷ s ∷ []) q z = none_some (sym z)
+    by (k ∷ s ∷ x ∷ t) q z =
+        let f : record { kind = k; start = s; next = i + 3 } ≡ r = some_same (sym z) in
+        let on : i + 3 ≡ r.next = ap (λ (a : Row). a.next) f in
+        let u : t ≡ drop (i + 3) ws = sym (ap (drop 3) q) ∙ drop-drop 3 i ws in
+        record {
+          end = x;
+          words = q ∙ (λ j. (f j).kind ∷ (f j).start ∷ x ∷ u j) ∙ (λ j. r.kind ∷ r.start ∷ x ∷ drop (on j) ws);
+          on = sym on;
+          inside = let l = length-drop i ws in let m = ap length q in omega arith;
+        }
 
 -- The tokens before a place ----------------------------------------------------------------------------------------------
 
 module _ (ws : List ℕ) (n i : ℕ) where
-  pub skip_done : row_of (drop i ws) ≡ Ended → skip_in n i (drop i ws) ≡ i
+  pub skip_done : None ≡ row_of i (drop i ws) → i ≡ skip_in n i (drop i ws)
   unfolding skip_in
-  skip_done e = few (λ (l : List ℕ). skip_in n i l ≡ i) refl (λ k. refl) (λ k s. refl) (drop i ws) (row_ended ws i e)
+  skip_done e = few (λ (l : List ℕ). i ≡ skip_in n i l) refl (λ k. refl) (λ k s. refl) i (drop i ws) e
 
-  module _ {k s : ℕ} (r : Stands ws i k s) where
-    pub skip_stop : n ≤ s → skip_in n i (drop i ws) ≡ i
+  module _ {r : Row} (t : Stands ws i r) where
+    pub skip_stop : n ≤ r.start → i ≡ skip_in n i (drop i ws)
     unfolding skip_in
-    skip_stop h = ap (skip_in n i) r.words ∙ simp (le-ltb s n h)
+    skip_stop h = sym (ap (skip_in n i) t.words ∙ simp (le-ltb r.start n h))
 
-    pub skip_on : s < n → skip_in n i (drop i ws) ≡ skip_in n (i + 3) (drop (i + 3) ws)
+    pub skip_on : r.start < n → skip_in n r.next (drop r.next ws) ≡ skip_in n i (drop i ws)
     unfolding skip_in
-    skip_on h = ap (skip_in n i) r.words ∙ simp (lt-ltb s n h)
+    skip_on h = ap (λ (m : ℕ). skip_in n m (drop r.next ws)) t.on ∙ sym (ap (skip_in n i) t.words ∙ simp (lt-ltb r.start n h))

@@ -1,19 +1,22 @@
 -- Reading an outline's words by their places is reading its records.
+use Rattle.std.specs.Prelude.{None, Some}
 use mathlib.Core.Path.{◌≡◌, refl, sym, ◌∙◌, ap}
 use mathlib.Core.Bool.{Bool, true, false}
 use mathlib.Core.List.{List, [], ◌∷◌}
-use mathlib.Core.Option.{Option, none, some}
-use Prim.Native.Nat.{ℕ, zero, suc, ◌+◌, ◌*◌, ◌-◌, ◌<◌, ◌≤◌}
+use mathlib.Core.Option.{Option as Maybe, none, some}
+use Prim.Native.Nat.{ℕ, zero, suc, ◌+◌, ◌*◌, ◌-◌, ◌/◌, ◌<◌, ◌≤◌}
 use native.Mathlib.Omega.{arith}
 use native.Mathlib.Numerals.{towards_suc}
-use lib.ListN.{length, get_or, drop, length-drop, drop_of_length-le}
-use lib.Seq.{drop-cons, drop-drop}
+use lib.ListN.{length, get_or, drop, length-drop, length-take, drop_of_length-le}
+use lib.Seq.{drop-cons, drop-drop, take_all}
+use Rattle.std.specs.List.{slice_range}
+use Rattle.std.proofs.lemmas.List.{get_or-drop}
 use Rattle.dogwood_rules.specs.Basic.{cut, cut_after}
 use Rattle.dogwood_rules.specs.Outline.{Statement, add_span, spans, with_parts, statement, statements}
 use Rattle.dogwood_rules.proofs.Cutting.{cut_step, cut_stop, before}
-use Rattle.dogwood_words.specs.declared.records.Reading.TheVariants.{Whole, Short}
 use Rattle.dogwood_words.specs.declared.records.Record.{Record}
 use Rattle.dogwood_words.specs.Records.{spans_at, statement_at, reading_of, record_at}
+use Rattle.dogwood_words.proofs.Founds.{none_some, some_same}
 use borrow.Author.Tests.{leb-true, leb-false}
 use lib.Dec.{leb}
 
@@ -78,71 +81,98 @@ spans_count ws zero k = refl
 spans_count ws (suc n) k = ap suc (spans_count ws n (k + 2))
 
 module _ (ws : List ℕ) (i : ℕ) where
-  pub read_few : length ws ≤ i → record_at ws i ≡ Short
-  unfolding record_at
-  read_few h = let e = length-drop i ws in ap (reading_of i) (statement_few (drop i ws) (omega arith))
-
-  pub read_less : length ws - i < 4 → record_at ws i ≡ Short
-  unfolding record_at
-  read_less h = let e = length-drop i ws in ap (reading_of i) (statement_few (drop i ws) (omega arith))
-
-  pub read_short : i + 4 ≤ length ws → length ws < i + 4 + 2 * get_or ws (i + 3) 0 → record_at ws i ≡ Short
-  unfolding record_at
-  read_short l k = ap (reading_of i) (statement_short ws i l k)
-
-  -- the record that the code makes
+  -- the record of the words there
   abbrev pub whole : Record
   whole = record { start = get_or ws (i + 1) 0; end = get_or ws (i + 2) 0; parts = get_or ws (i + 3) 0; next = i + 4 + 2 * get_or ws (i + 3) 0 }
 
-  pub read_whole : i + 4 ≤ length ws → i + 4 + 2 * get_or ws (i + 3) 0 ≤ length ws → record_at ws i ≡ Whole whole
-  unfolding record_at statement_at
-  read_whole l k =
-      let n = get_or ws (i + 3) 0 in
-      ap (reading_of i) (statement_at_lem ws i l k)
-      ∙ (λ j. Whole (record { start = get_or ws (i + 1) 0; end = get_or ws (i + 2) 0; parts = spans_count ws n (i + 4) j; next = plus i n j }))
-    where
-      plus : (i n : ℕ) → i + (1 + (3 + 2 * n)) ≡ i + 4 + 2 * n
-      plus i n = omega arith
+  less : length (drop i ws) < 4 → None ≡ record_at ws i
+  unfolding record_at
+  less h = ap (reading_of i) (sym (statement_few (drop i ws) h))
 
-  -- what a whole record says
+  module _ (l : i + 4 ≤ length ws) where
+    short : length ws < i + 4 + 2 * get_or ws (i + 3) 0 → None ≡ record_at ws i
+    unfolding record_at
+    short k = ap (reading_of i) (sym (statement_short ws i l k))
+
+    full : i + 4 + 2 * get_or ws (i + 3) 0 ≤ length ws → Some whole ≡ record_at ws i
+    unfolding record_at statement_at
+    full k =
+        let n = get_or ws (i + 3) 0 in
+        (λ j. Some (record { start = get_or ws (i + 1) 0; end = get_or ws (i + 2) 0; parts = sym (spans_count ws n (i + 4)) j; next = plus i n j }))
+        ∙ ap (reading_of i) (sym (statement_at_lem ws i l k))
+      where
+        plus : (i n : ℕ) → i + 4 + 2 * n ≡ i + (1 + (3 + 2 * n))
+        plus i n = omega arith
+
+  -- what the code makes of the words from there on
+  pub rest_of : {xs : List ℕ} → xs ≡ slice_range ws i (length ws) → xs ≡ drop i ws
+  rest_of q = let l = length-drop i ws in q ∙ take_all (length ws - i) (drop i ws) (omega arith)
+
+  pub read_none : length ws < i → None ≡ record_at ws i
+  read_none h = let l = length-drop i ws in less (omega arith)
+
+  module _ {xs : List ℕ} (q : xs ≡ drop i ws) where
+    at : (k : ℕ) → get_or xs k 0 ≡ get_or ws (i + k) 0
+    at k = ap (λ (l : List ℕ). get_or l k 0) q ∙ get_or-drop i ws k 0
+
+    pub read_less : length xs < 4 → None ≡ record_at ws i
+    read_less h = let e = ap length q in less (omega arith)
+
+    module _ (h : 4 ≤ length xs) where
+      -- the words behind the head
+      abbrev left : ℕ
+      left = length (slice_range xs 4 (length xs))
+
+      left_len : left ≡ length xs - 4
+      left_len = let d = length-drop 4 xs in let t = length-take (length xs - 4) (drop 4 xs) in omega arith
+
+      pub read_short : left / 2 < get_or xs 3 0 → None ≡ record_at ws i
+      read_short k = let m = left_len in let e = ap length q in let l = length-drop i ws in let n = at 3 in short (omega arith) (omega arith)
+
+      pub read_whole : get_or xs 3 0 ≤ left / 2
+          → Some (record { start = get_or xs 1 0; end = get_or xs 2 0; parts = get_or xs 3 0; next = i + 4 + 2 * get_or xs 3 0 }) ≡ record_at ws i
+      read_whole k =
+          let m = left_len in
+          let e = ap length q in
+          let l = length-drop i ws in
+          let n = at 3 in
+          (λ j. Some (record { start = at 1 j; end = at 2 j; parts = at 3 j; next = i + 4 + 2 * at 3 j })) ∙ full (omega arith) (omega arith)
+
+  -- what a record says
   pub record Said (r : Record) : Type 0 where
     pub is : r ≡ whole
     pub room : i + 4 + 2 * get_or ws (i + 3) 0 ≤ length ws
     pub stated : statement (drop i ws) ≡ some (statement_at ws i, 3 + 2 * get_or ws (i + 3) 0)
 
-  clash : {r : Record} {A : Type 0} → Short ≡ Whole r → A
-  clash e = absurd (let z : ◌≡◌ {A = ℕ} 0 1 = cc in omega arith)
-
-  pub said : {r : Record} → record_at ws i ≡ Whole r → Said r
+  pub said : {r : Record} → Some r ≡ record_at ws i → Said r
   said {r} e = by (leb (i + 4) (length ws)) refl (leb (i + 4 + 2 * get_or ws (i + 3) 0) (length ws)) refl
     where
       by : (b : Bool) → leb (i + 4) (length ws) ≡ b → (c : Bool) → leb (i + 4 + 2 * get_or ws (i + 3) 0) (length ws) ≡ c → Said r
-      by false h c k = let l = leb-false (i + 4) (length ws) h in clash (sym (read_less (omega arith)) ∙ e)
-      by true h false k = clash (sym (read_short (leb-true (i + 4) (length ws) h) (leb-false (i + 4 + 2 * get_or ws (i + 3) 0) (length ws) k)) ∙ e)
+      by false h c k = let l = leb-false (i + 4) (length ws) h in let d = length-drop i ws in none_some (less (omega arith) ∙ sym e)
+      by true h false k = none_some (short (leb-true (i + 4) (length ws) h) (leb-false (i + 4 + 2 * get_or ws (i + 3) 0) (length ws) k) ∙ sym e)
       by true h true k =
           let l = leb-true (i + 4) (length ws) h in
           let m = leb-true (i + 4 + 2 * get_or ws (i + 3) 0) (length ws) k in
-          let z : Whole r ≡ Whole whole = sym e ∙ read_whole l m in
-          record { is = cc; room = m; stated = statement_at_lem ws i l m }
+          record { is = some_same (e ∙ sym (full l m)); room = m; stated = statement_at_lem ws i l m }
 
   -- its parts' words are there, and the next record stands behind it
-  pub parts_room : {r : Record} → record_at ws i ≡ Whole r → i + 4 + 2 * r.parts ≤ length ws
+  pub parts_room : {r : Record} → Some r ≡ record_at ws i → i + 4 + 2 * r.parts ≤ length ws
   parts_room {r} e = let q = said e in let p : r.parts ≡ get_or ws (i + 3) 0 = ap (λ (x : Record). x.parts) q.is in omega (arith, q.room, p)
 
-  pub next_room : {r : Record} → record_at ws i ≡ Whole r → (i < r.next) × (r.next ≤ length ws)
+  pub next_room : {r : Record} → Some r ≡ record_at ws i → (i < r.next) × (r.next ≤ length ws)
   next_room {r} e =
       let q = said e in
       let p : r.next ≡ i + 4 + 2 * get_or ws (i + 3) 0 = ap (λ (x : Record). x.next) q.is in
       (omega (arith, p), omega (arith, q.room, p))
 
-  -- what a short one says
-  pub unsaid : record_at ws i ≡ Short → statement (drop i ws) ≡ none
+  -- where there is none
+  pub unsaid : None ≡ record_at ws i → statement (drop i ws) ≡ none
   unfolding record_at
   unsaid e = by (statement (drop i ws)) refl e
     where
-      by : (o : Option (Statement × ℕ)) → statement (drop i ws) ≡ o → reading_of i o ≡ Short → statement (drop i ws) ≡ none
+      by : (o : Maybe (Statement × ℕ)) → statement (drop i ws) ≡ o → None ≡ reading_of i o → statement (drop i ws) ≡ none
       by none h q = h
-      by (some p) h q = absurd (let z : ◌≡◌ {A = ℕ} 0 1 = cc in omega arith)
+      by (some p) h q = none_some q
 
 -- All records -----------------------------------------------------------------------------------------------------------
 

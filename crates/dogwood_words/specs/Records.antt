@@ -1,9 +1,8 @@
 -- Records by the places of their words.
-use Rattle.std.specs.Prelude.{List, [], ◌∷◌, ℕ, zero, suc, ◌+◌, length, get_or, drop}
-use Rattle.std.proofs.Math.Option.{Option, none, some}
+use Rattle.std.specs.Prelude.{List, [], ◌∷◌, Option, None, Some, ℕ, zero, suc, ◌+◌, length, get_or, drop}
+use Rattle.std.proofs.Math.Option.{Option as Maybe, none, some}
 use Rattle.dogwood_rules.specs.Outline.{Span, Statement, statement}
-use Rattle.dogwood_words.specs.declared.records.Reading.{Reading}
-use Rattle.dogwood_words.specs.declared.records.Reading.TheVariants.{Whole, Short}
+use Rattle.dogwood_words.specs.declared.records.Record.{Record}
 
 -- n spans among the words from k on; 0 for a word that is not there
 unfoldable pub spans_at : List ℕ → ℕ → ℕ → List Span
@@ -20,10 +19,10 @@ statement_at ws i =
     }
 
 -- what the code reads where the rules give a statement, with how many words it has besides the first
-abbrev pub reading_of : ℕ → Option (Statement × ℕ) → Reading
-reading_of i none = Short
+abbrev pub reading_of : ℕ → Maybe (Statement × ℕ) → Option Record
+reading_of i none = None
 reading_of i (some p) =
-    Whole (record { start = p.0.span.start; end = p.0.span.stop; parts = length p.0.parts; next = i + (1 + p.1) })
+    Some (record { start = p.0.span.start; end = p.0.span.stop; parts = length p.0.parts; next = i + (1 + p.1) })
 
-unfoldable pub record_at : List ℕ → ℕ → Reading
+unfoldable pub record_at : List ℕ → ℕ → Option Record
 record_at ws i = reading_of i (statement (drop i ws))

@@ -1,14 +1,12 @@
 -- What a search finds, as the code gives it.
-use Rattle.std.specs.Prelude.{Bool, true, false, ℕ}
-use Rattle.std.proofs.Math.Option.{Option, none, some}
-use Rattle.utf8.specs.declared.Found.{Found}
-use Rattle.utf8.specs.declared.Found.TheVariants.{At, Nothing}
+use Rattle.std.specs.Prelude.{Bool, true, false, Option, None, Some, ℕ}
+use Rattle.std.proofs.Math.Option.{Option as Maybe, none, some}
 
 -- an answer of the rules as the code gives it
-abbrev pub found_of : Option ℕ → Found
-found_of none = Nothing
-found_of (some n) = At n
+abbrev pub found_of : Maybe ℕ → Option ℕ
+found_of none = None
+found_of (some n) = Some n
 
-abbrev pub absent : Option ℕ → Bool
+abbrev pub absent : Maybe ℕ → Bool
 absent none = true
 absent (some n) = false

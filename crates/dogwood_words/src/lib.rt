@@ -7,6 +7,6 @@ mod rows;
 mod walks;
 
 pub use brackets::{closes, is_and_or, is_comma, opens};
-pub use records::{Reading, Record, record_at};
+pub use records::{Record, record_at};
 pub use rows::{Row, row_at, skip};
 pub use walks::{Walked, gap, part};

@@ -10,31 +10,20 @@ pub struct Record {
     pub next: usize,
 }
 
-// A whole record, or too few words.
-#[derive(Clone, Copy)]
-pub enum Reading {
-    Whole(Record),
-    Short,
-}
-
 // The record whose words begin at i.
-pub fn record_at(outline: &[u32], i: usize) -> Reading
+pub fn record_at(outline: &[u32], i: usize) -> Option<Record>
     ensures { RecordIs outline.now i result }
 {
-    if outline.len() <= i {
-        return Reading::Short;
+    let [_, start, end, parts, rest @ ..] = outline.get(i..)? else {
+        return None;
+    };
+    let parts = *parts as usize;
+    if rest.len() / 2 < parts {
+        return None;
     }
-    let left = outline.len() - i;
-    if left < 4 {
-        return Reading::Short;
-    }
-    let parts = outline[i + 3] as usize;
-    if (left - 4) / 2 < parts {
-        return Reading::Short;
-    }
-    Reading::Whole(Record {
-        start: outline[i + 1] as usize,
-        end: outline[i + 2] as usize,
+    Some(Record {
+        start: *start as usize,
+        end: *end as usize,
         parts,
         next: i + 4 + 2 * parts,
     })

@@ -1,26 +1,16 @@
-use Prim.Native.Nat.{◌+◌}
-use mathlib.Core.Path.{sym}
+use mathlib.Core.Path.{◌∙◌}
 use native.Mathlib.Omega.{arith}
-use Rattle.dogwood_words.proofs.Words.{read_few, read_less, read_short, read_whole}
+use Rattle.dogwood_words.proofs.Words.{rest_of, read_none, read_less, read_short, read_whole}
 use Rattle.dogwood_words.proofs.records.record_at.Goals as goal
 
-pub returns-then-outline-i : goal.returns-then-outline-i
-returns-then-outline-i c = sym (read_few _ _ c.if-outline-i.true)
+pub returns-in_err-get : goal.returns-in_err-get
+returns-in_err-get c = c.from_residual.ensures ∙ read_none _ _ (omega (arith, c.in_err-get.ensures.lookup.0))
 
-pub returns-then-left-lt4 : goal.returns-then-left-lt4
-returns-then-left-lt4 c = sym (read_less _ _ c.if-left-lt4.true)
+pub returns-in_default : goal.returns-in_default
+returns-in_default c = read_less c.args.outline.now c.args.i (rest_of c.args.outline.now c.args.i c.in_ok-get.ensures.lookup.0.2) c.in_default.len_below
 
-pub overflow_cast-parts : goal.overflow_cast-parts
-overflow_cast-parts c = omega (arith, c.type_inv.outline (c.args.i + 3))
-
-pub returns-then-left-parts : goal.returns-then-left-parts
-returns-then-left-parts c = sym (read_short _ _ (omega (arith, c.if-outline-i.false, c.if-left-lt4.false)) (omega (arith, c.if-outline-i.false, c.if-left-lt4.false, c.if-left-parts.true)))
-
-pub overflow_cast-result : goal.overflow_cast-result
-overflow_cast-result c = omega (arith, c.type_inv.outline (c.args.i + 1))
-
-pub overflow_cast-result-2 : goal.overflow_cast-result-2
-overflow_cast-result-2 c = omega (arith, c.type_inv.outline (c.args.i + 2))
+pub returns-then-rest-parts : goal.returns-then-rest-parts
+returns-then-rest-parts c = read_short c.args.outline.now c.args.i (rest_of c.args.outline.now c.args.i c.in_ok-get.ensures.lookup.0.2) c.in-len4-up.len_at_least c.if-rest-parts.true
 
 pub returns : goal.returns
-returns c = sym (read_whole _ _ (omega (arith, c.if-outline-i.false, c.if-left-lt4.false)) (omega (arith, c.if-outline-i.false, c.if-left-lt4.false, c.if-left-parts.false)))
+returns c = read_whole c.args.outline.now c.args.i (rest_of c.args.outline.now c.args.i c.in_ok-get.ensures.lookup.0.2) c.in-len4-up.len_at_least c.if-rest-parts.false

@@ -4,8 +4,8 @@ use lib.ListN.{length, drop}
 use Rattle.dogwood_words.specs.Rows.{skip_in}
 use Rattle.dogwood_words.proofs.rows.skip.Given as goal
 
-abbrev pub invariant-loop-start : goal.invariant-loop-start
-invariant-loop-start l = skip_in l.n l.i (drop l.i l.table) ≡ skip_in l.n l.from (drop l.from l.table)
+abbrev pub invariant-loop-row : goal.invariant-loop-row
+invariant-loop-row l = skip_in l.n l.i (drop l.i l.table) ≡ skip_in l.n l.from (drop l.from l.table)
 
-abbrev pub decreases-loop-start : goal.decreases-loop-start
-decreases-loop-start l = length l.table - l.i
+abbrev pub decreases-loop-row : goal.decreases-loop-row
+decreases-loop-row l = length l.table - l.i

@@ -1,79 +1,31 @@
-use mathlib.Core.Path.{refl, sym, ap, ◌∙◌}
-use mathlib.Core.Bool.{true, false}
+use mathlib.Core.Path.{ap, ◌∙◌}
 use native.Mathlib.Omega.{arith}
-use Rattle.dogwood_words.specs.Brackets.{opening, closing}
 use Rattle.dogwood_words.specs.Rows.{walked_of}
 use Rattle.dogwood_words.proofs.RowSteps.{row_stands}
-use Rattle.dogwood_words.proofs.GapSteps.{part_done, part_stop, part_open, part_close, part_under, part-plain}
+use Rattle.dogwood_words.proofs.GapSteps.{part_done, part_stop, part_open, part_close, part_under, part_on}
 use Rattle.dogwood_words.proofs.walks.part.Goals as goal
 
-pub loop-kind-init : goal.loop-kind-init
-loop-kind-init c = (refl, omega arith)
+pub returns-then-n-row : goal.returns-then-n-row
+returns-then-n-row c =
+    c.then_some.ensures ∙ part_stop _ _ _ _ _ _ (row_stands _ _ c.in-Some.ensures) c.if-n-row.true c.ends.ensures ∙ ap walked_of c.loop-row.invariant.0
 
-pub returns-then-depth-text : goal.returns-then-depth-text
-returns-then-depth-text c = ap walked_of (sym (part_done c.args.text.now c.args.table.now _ _ c.loop-kind.seen _ true (sym c.in_default.ensures) c.if-depth-text.true) ∙ c.loop-kind.invariant.0)
+pub loop-row-preserved-then-opens : goal.loop-row-preserved-then-opens
+loop-row-preserved-then-opens c =
+    (part_open _ _ _ _ _ _ (row_stands _ _ c.in-Some.ensures) c.if-n-row.false c.byte-first.ensures c.is_plain-seen.ensures c.if-opens.ensures ∙ c.loop-row.invariant.0, omega (arith, c.loop-row.invariant.1, (row_stands c.args.table.now c.loop-row.i c.in-Some.ensures).on))
 
-pub returns-in_default : goal.returns-in_default
-returns-in_default c = ap walked_of (sym (part_done c.args.text.now c.args.table.now _ _ c.loop-kind.seen _ false (sym c.in_default.ensures) c.if-depth-text.false) ∙ c.loop-kind.invariant.0)
+pub returns-in_err-depth : goal.returns-in_err-depth
+returns-in_err-depth c =
+    c.from_residual.ensures
+    ∙ part_under _ _ _ _ _ _ (row_stands _ _ c.in-Some.ensures) c.if-n-row.false c.byte-first.ensures c.is_plain-seen.ensures c.if-opens.ensures c.if-closes.ensures c.in_err-depth.ensures
+    ∙ ap walked_of c.loop-row.invariant.0
 
-pub returns-then-depth-start : goal.returns-then-depth-start
-returns-then-depth-start c =
-    let k = row_stands c.args.table.now c.loop-kind.i (sym c.in-Token.ensures) in
-    ap walked_of (sym (part_stop c.args.text.now c.args.table.now _ _ c.loop-kind.seen _ k true c.if-n-start.true c.if-depth-start.true) ∙ c.loop-kind.invariant.0)
+pub loop-row-preserved-then-closes : goal.loop-row-preserved-then-closes
+loop-row-preserved-then-closes c =
+    (part_close _ _ _ _ _ _ (row_stands _ _ c.in-Some.ensures) c.if-n-row.false c.byte-first.ensures c.is_plain-seen.ensures c.if-opens.ensures c.if-closes.ensures c.in_ok-depth.ensures ∙ c.loop-row.invariant.0, omega (arith, c.in_ok-depth.ensures, c.loop-row.invariant.1, (row_stands c.args.table.now c.loop-row.i c.in-Some.ensures).on))
 
-pub returns-then-n-start : goal.returns-then-n-start
-returns-then-n-start c =
-    let k = row_stands c.args.table.now c.loop-kind.i (sym c.in-Token.ensures) in
-    ap walked_of (sym (part_stop c.args.text.now c.args.table.now _ _ c.loop-kind.seen _ k false c.if-n-start.true c.if-depth-start.false) ∙ c.loop-kind.invariant.0)
+pub loop-row-preserved : goal.loop-row-preserved
+loop-row-preserved c =
+    (part_on _ _ _ _ _ _ (row_stands _ _ c.in-Some.ensures) c.if-n-row.false c.byte-first.ensures c.is_plain-seen.ensures c.if-opens.ensures c.if-closes.ensures ∙ c.loop-row.invariant.0, omega (arith, c.loop-row.invariant.1, (row_stands c.args.table.now c.loop-row.i c.in-Some.ensures).on))
 
-pub overflow_add-i : goal.overflow_add-i
-overflow_add-i c =
-    let k = row_stands c.args.table.now c.loop-kind.i (sym c.in-Token.ensures) in
-    omega (arith, k.inside, c.loop-kind.invariant.1)
-
-pub overflow_add-depth : goal.overflow_add-depth
-overflow_add-depth c =
-    let k = row_stands c.args.table.now c.loop-kind.i (sym c.in-Token.ensures) in
-    omega (arith, k.inside, c.loop-kind.invariant.1)
-
-pub loop-kind-smaller-then-opens : goal.loop-kind-smaller-then-opens
-loop-kind-smaller-then-opens c =
-    let k = row_stands c.args.table.now c.loop-kind.i (sym c.in-Token.ensures) in
-    omega (arith, k.inside)
-
-pub loop-kind-preserved-then-opens : goal.loop-kind-preserved-then-opens
-loop-kind-preserved-then-opens c =
-    let k = row_stands c.args.table.now c.loop-kind.i (sym c.in-Token.ensures) in
-    let o = ap (opening _) (sym c.byte-first.ensures) ∙ sym c.opens.ensures ∙ c.if-opens.true in
-    (sym (part_open c.args.text.now c.args.table.now _ _ c.loop-kind.seen _ k c.if-n-start.false o) ∙ c.loop-kind.invariant.0, omega (arith, c.loop-kind.invariant.1))
-
-pub returns-then-depth-eq0 : goal.returns-then-depth-eq0
-returns-then-depth-eq0 c =
-    let k = row_stands c.args.table.now c.loop-kind.i (sym c.in-Token.ensures) in
-    let o = ap (opening _) (sym c.byte-first.ensures) ∙ sym c.opens.ensures ∙ c.if-opens.false in
-    let q = ap (closing _) (sym c.byte-first.ensures) ∙ sym c.closes.ensures ∙ c.if-closes.true in
-    ap walked_of (sym (part_under c.args.text.now c.args.table.now _ _ c.loop-kind.seen _ k c.if-n-start.false o q c.if-depth-eq0.true) ∙ c.loop-kind.invariant.0)
-
-pub loop-kind-smaller-then-closes : goal.loop-kind-smaller-then-closes
-loop-kind-smaller-then-closes c =
-    let k = row_stands c.args.table.now c.loop-kind.i (sym c.in-Token.ensures) in
-    omega (arith, k.inside)
-
-pub loop-kind-preserved-then-closes : goal.loop-kind-preserved-then-closes
-loop-kind-preserved-then-closes c =
-    let k = row_stands c.args.table.now c.loop-kind.i (sym c.in-Token.ensures) in
-    let o = ap (opening _) (sym c.byte-first.ensures) ∙ sym c.opens.ensures ∙ c.if-opens.false in
-    let q = ap (closing _) (sym c.byte-first.ensures) ∙ sym c.closes.ensures ∙ c.if-closes.true in
-    (sym (part_close c.args.text.now c.args.table.now _ _ c.loop-kind.seen _ k c.if-n-start.false o q c.if-depth-eq0.false) ∙ c.loop-kind.invariant.0, omega (arith, c.loop-kind.invariant.1))
-
-pub loop-kind-smaller : goal.loop-kind-smaller
-loop-kind-smaller c =
-    let k = row_stands c.args.table.now c.loop-kind.i (sym c.in-Token.ensures) in
-    omega (arith, k.inside)
-
-pub loop-kind-preserved : goal.loop-kind-preserved
-loop-kind-preserved c =
-    let k = row_stands c.args.table.now c.loop-kind.i (sym c.in-Token.ensures) in
-    let o = ap (opening _) (sym c.byte-first.ensures) ∙ sym c.opens.ensures ∙ c.if-opens.false in
-    let q = ap (closing _) (sym c.byte-first.ensures) ∙ sym c.closes.ensures ∙ c.if-closes.false in
-    (sym (part-plain c.args.text.now c.args.table.now _ _ c.loop-kind.seen _ k c.if-n-start.false o q) ∙ c.loop-kind.invariant.0, omega (arith, c.loop-kind.invariant.1))
+pub returns : goal.returns
+returns c = c.then_some-2.ensures ∙ part_done _ _ _ _ _ _ c.in_default.ensures c.ends-2.ensures ∙ ap walked_of c.loop-row.invariant.0
