@@ -6,7 +6,7 @@ ghost use Rattle.dogwood_rules.specs.Utf8.{mark_of, text_of};
 ghost use Rattle.dogwood_rules.specs.Utf8.{decode};
 ghost use Rattle.utf8.specs.Told.{left_at};
 ghost use Rattle.utf8.specs.Valid.{bad_from};
-ghost use Rattle.utf8.specs.Utf8.{length_of, within, low_of, high_of, two_of, three_of, four_of, decode_at};
+ghost use Rattle.utf8.specs.Utf8.{length_of, some_length, within, low_of, high_of, two_of, three_of, four_of, decode_at};
 
 // A character: its code point, and its length in bytes.
 #[derive(Clone, Copy)]
@@ -15,21 +15,21 @@ pub struct Char {
     pub len: usize,
 }
 
-// How many bytes a character has that begins with b, by the one bits that lead; 0 where none begins so.
-fn sequence(b: u8) -> usize
-    ensures { result ≡ length_of b }
+// How many bytes a character has that begins with b, by the one bits that lead.
+fn sequence(b: u8) -> Option<usize>
+    ensures { result ≡ some_length (length_of b) }
 {
     let n = (!b).leading_zeros();
     if n == 0 {
-        return 1;
+        return Some(1);
     }
     if b < 0xC2 {
-        return 0;
+        return None;
     }
     if 0xF4 < b {
-        return 0;
+        return None;
     }
-    n as usize
+    Some(n as usize)
 }
 
 // A byte behind a character's first.
@@ -111,15 +111,14 @@ pub fn decode(s: &[u8], at: usize) -> Option<Char>
         return None;
     }
     let a = byte(s, at);
-    match sequence(a) {
+    match sequence(a)? {
         1 => Some(Char {
             code: u32::from(a),
             len: 1,
         }),
         2 => two(a, byte(s, at + 1)),
         3 => three(a, byte(s, at + 1), byte(s, at + 2)),
-        4 => four(a, byte(s, at + 1), byte(s, at + 2), byte(s, at + 3)),
-        _ => None,
+        _ => four(a, byte(s, at + 1), byte(s, at + 2), byte(s, at + 3)),
     }
 }
 
