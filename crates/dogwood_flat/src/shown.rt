@@ -6,6 +6,7 @@ ghost use Rattle.dogwood_rules.specs.Tree.{shown, joined};
 ghost use Rattle.dogwood_layout.specs.View.{token_of, tokens, Held, Holds};
 
 use dogwood_layout::Entry;
+use dogwood_rows::Kind;
 use dogwood_runs::entry_at;
 use pen::{add, clip, put, put_all, put_line};
 
@@ -14,12 +15,10 @@ pub fn put_token(out: &mut [u8], text: &[u8], e: Entry) -> usize
     requires { Held text.now e }
     ensures { Wrote out.old (encode (shown (token_of text.now e))) result out.new }
 {
-    if e.kind == 0 {
-        return put(out, 32);
+    if e.kind == Kind::Whitespace as u32 {
+        return put(out, b' ');
     }
-    let a = e.start as usize;
-    let b = e.end as usize;
-    put_all(out, &text[a..b])
+    put_all(out, e.bytes(text))
 }
 
 // Writes an LF, n spaces and a token.

@@ -6,6 +6,7 @@ ghost use Rattle.dogwood_layout.specs.Measure.{span_after, past_byte, past_bytes
 ghost use Rattle.dogwood_flat.specs.Promises.{SpanIs};
 
 use dogwood_layout::{Entry, Span};
+use dogwood_rows::Kind;
 use dogwood_runs::entry_at;
 
 // A byte 80 to BF belongs to the character before it and takes no column.
@@ -13,7 +14,7 @@ fn past_byte(s: Span, b: u8) -> Span
     requires { (s.width < 0xffff_ffff_ffff_ffff) × (s.col < 0xffff_ffff_ffff_ffff) }
     ensures { result ≡ past_byte s b }
 {
-    if b == 10 {
+    if b == b'\n' {
         return Span {
             width: s.width + 1,
             col: 0,
@@ -33,10 +34,8 @@ fn past_bytes(bytes: &[u8], start: Span) -> Span
     ensures { result ≡ past_bytes start bytes.now }
 {
     let mut s = start;
-    let mut i: usize = 0;
-    while i < bytes.len() {
-        s = past_byte(s, bytes[i]);
-        i += 1;
+    for b in bytes {
+        s = past_byte(s, *b);
     }
     s
 }
@@ -45,15 +44,13 @@ fn past_token(text: &[u8], e: Entry, s: Span) -> Span
     requires { Held text.now e × (s.width < 0x7fff_ffff_ffff_ffff) × (s.col < 0x7fff_ffff_ffff_ffff) }
     ensures { result ≡ span_after s (shown (token_of text.now e)) }
 {
-    if e.kind == 0 {
+    if e.kind == Kind::Whitespace as u32 {
         return Span {
             width: s.width + 1,
             col: s.col + 1,
         };
     }
-    let a = e.start as usize;
-    let b = e.end as usize;
-    past_bytes(&text[a..b], s)
+    past_bytes(e.bytes(text), s)
 }
 
 // The width of a table's tokens, each white-space token one blank, and the column behind them where they start in column col.

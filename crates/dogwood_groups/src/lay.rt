@@ -109,7 +109,7 @@ fn lay_piece(
         };
     }
     let end = table.len() - 3;
-    if (filled(&table[3..end]) == 0) | (col + span.width + follow <= page.width) {
+    if !filled(&table[3..end]) | (col + span.width + follow <= page.width) {
         return Laid {
             count: flat(out, text, table),
             col: span.col,

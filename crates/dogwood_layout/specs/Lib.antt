@@ -7,3 +7,4 @@ pub mod Ends
 pub mod Pieces
 pub mod Places
 pub mod Feeds
+pub mod Promises

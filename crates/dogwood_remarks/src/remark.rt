@@ -8,6 +8,7 @@ ghost use Rattle.dogwood_layout.specs.Feeds.{due_remarks, remarks_due, Due};
 
 use dogwood_layout::{Entry, Written};
 use dogwood_letters::is_space;
+use dogwood_rows::Kind;
 use dogwood_runs::entry_at;
 use pen::{add, clip, put_all, put_copies};
 use utf8::{Char, decode};
@@ -44,19 +45,17 @@ fn put_remark(out: &mut [u8], text: &[u8], e: Entry, feeds: usize) -> Written
     requires { Held text.now e }
     ensures { Due (due_remarks feeds (token_of text.now e ∷ [])) (remarks_due feeds (token_of text.now e ∷ [])) out.old result.count result.feeds out.new }
 {
-    if e.kind != 1 {
+    if e.kind != Kind::Comment as u32 {
         return Written {
             count: 0,
             feeds: feeds,
         };
     }
-    let a = e.start as usize;
-    let b = e.end as usize;
-    let end = a + kept(&text[a..b]);
-    let n = put_copies(out, 10, feeds);
+    let bytes = e.bytes(text);
+    let n = put_copies(out, b'\n', feeds);
     let at = clip(n, out.len());
     Written {
-        count: add(n, put_all(&mut out[at..], &text[a..end])),
+        count: add(n, put_all(&mut out[at..], &bytes[..kept(bytes)])),
         feeds: 1,
     }
 }

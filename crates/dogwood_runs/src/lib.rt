@@ -5,5 +5,5 @@
 mod run;
 mod table;
 
-pub use run::{filled, item_end, lead, piece_end, split_items, trimmed};
+pub use run::{Separator, filled, item_end, lead, piece_end, split_items, trimmed};
 pub use table::entry_at;

@@ -8,6 +8,14 @@ ghost use Rattle.dogwood_runs.specs.Promises.{LeadIs, TrimmedIs, FilledIs, ItemI
 
 use crate::table::{cuts_after, cuts_before, depth_after, entry_at, opens};
 use dogwood_layout::Part;
+use dogwood_rows::Kind;
+
+// What cuts an inside into items: commas, or && and ||.
+#[derive(Clone, Copy, PartialEq, Eq)]
+pub enum Separator {
+    Comma,
+    AndOr,
+}
 
 // How many words of white space stand at the front of a table.
 pub fn lead(table: &[u32]) -> usize
@@ -16,7 +24,7 @@ pub fn lead(table: &[u32]) -> usize
 {
     let mut i: usize = 0;
     while i < table.len() {
-        if table[i] != 0 {
+        if table[i] != Kind::Whitespace as u32 {
             break;
         }
         i += 3;
@@ -31,7 +39,7 @@ fn solid(table: &[u32]) -> usize
 {
     let mut n = table.len();
     while 0 < n {
-        if table[n - 3] != 0 {
+        if table[n - 3] != Kind::Whitespace as u32 {
             break;
         }
         n -= 3;
@@ -51,12 +59,12 @@ pub fn trimmed(table: &[u32]) -> Part
     }
 }
 
-// 1 for a table that has more than white space, else 0.
-pub fn filled(table: &[u32]) -> usize
+// A table has more than white space.
+pub fn filled(table: &[u32]) -> bool
     requires { Whole table.now }
     ensures { FilledIs table.now result }
 {
-    if lead(table) < table.len() { 1 } else { 0 }
+    lead(table) < table.len()
 }
 
 // How many words the group at the front of a table has.
@@ -77,7 +85,7 @@ fn group_end(text: &[u8], table: &[u32]) -> usize
 }
 
 // How many words the item at the front of a table has, cut by a set.
-pub fn item_end(text: &[u8], table: &[u32], set: usize) -> usize
+pub fn item_end(text: &[u8], table: &[u32], set: Option<Separator>) -> usize
     requires { Ready text.now table.now }
     ensures { ItemIs text.now table.now set result }
 {
@@ -110,24 +118,24 @@ pub fn piece_end(text: &[u8], table: &[u32]) -> usize
     3
 }
 
-// Which separator set cuts an inside into more than one item: 0, 1, or 2 for neither.
-pub fn split_items(text: &[u8], table: &[u32]) -> usize
+// Which separator set cuts an inside into more than one item, if one does.
+pub fn split_items(text: &[u8], table: &[u32]) -> Option<Separator>
     requires { Ready text.now table.now × Formed (tokens text.now table.now) }
     ensures { SetIs text.now table.now result }
 {
-    let mut set: usize = 0;
-    'sets: while set < 2 {
+    let mut chosen = None;
+    'sets: for set in [Separator::Comma, Separator::AndOr] {
         let mut found: usize = 0;
         let mut i: usize = 0;
         while i < table.len() {
-            let m = item_end(text, &table[i..], set);
-            found += filled(&table[i..i + m]);
+            let m = item_end(text, &table[i..], Some(set));
+            found += usize::from(filled(&table[i..i + m]));
             if 1 < found {
+                chosen = Some(set);
                 break 'sets;
             }
             i += m;
         }
-        set += 1;
     }
-    set
+    chosen
 }

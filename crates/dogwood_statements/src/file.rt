@@ -39,7 +39,7 @@ fn lay_part(out: &mut [u8], text: &[u8], table: &[u32], page: Page, feeds: usize
     requires { Ready text.now table.now × Part (tokens text.now table.now) × Bounded page 0 (length table.now) }
     ensures { Due (due_lines feeds (add_line (layout (settings page) 0 (tokens text.now table.now)) [])) (lines_due feeds (add_line (layout (settings page) 0 (tokens text.now table.now)) [])) out.old result.count result.feeds out.new }
 {
-    if filled(table) == 0 {
+    if !filled(table) {
         return Written {
             count: 0,
             feeds: feeds,

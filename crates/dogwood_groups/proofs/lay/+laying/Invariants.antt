@@ -3,6 +3,7 @@ use Prim.Native.Nat.{◌+◌, ◌-◌, ◌*◌}
 use lib.ListN.{length}
 use Rattle.dogwood_layout.specs.Pieces.{settings}
 use Rattle.dogwood_layout.proofs.Lays.{LinesAt, RunAt}
+use Rattle.dogwood_runs.specs.Separators.{set_number}
 use Rattle.dogwood_groups.proofs.lay.+laying.Given as goal
 
 abbrev pub decreases-lay_group : goal.decreases-lay_group
@@ -24,7 +25,7 @@ abbrev pub decreases-lay_run : goal.decreases-lay_run
 decreases-lay_run l = 6 * length l.table.now + 2
 
 abbrev pub invariant-lay_items-loop-i : goal.invariant-lay_items-loop-i
-invariant-lay_items-loop-i l = (length l.out ≡ length l.initial.out) × LinesAt (settings l.page) l.depth l.text l.table l.set l.initial.out l.out l.n l.i
+invariant-lay_items-loop-i l = (length l.out ≡ length l.initial.out) × LinesAt (settings l.page) l.depth l.text l.table (set_number l.set) l.initial.out l.out l.n l.i
 
 abbrev pub decreases-lay_items-loop-i : goal.decreases-lay_items-loop-i
 decreases-lay_items-loop-i l = length l.table - l.i

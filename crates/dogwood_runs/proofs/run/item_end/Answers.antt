@@ -6,7 +6,7 @@ use Rattle.dogwood_layout.proofs.Tables.{held_at, entry_there}
 use Rattle.dogwood_runs.proofs.run.item_end.Goals as goal
 
 pub loop-i-init : goal.loop-i-init
-loop-i-init c = item_start _ _ c.args.set c.requires.holds
+loop-i-init c = item_start _ _ _ c.requires.holds
 
 pub entry_at-e-requires : goal.entry_at-e-requires
 entry_at-e-requires c = entry_there _ _ _ c.loop-i.invariant.holds c.loop-i-test.true
