@@ -1,13 +1,13 @@
 // The width of a run and the column behind it.
 ghost use Rattle.std.specs.Prelude.{◌≡◌, ◌<◌};
 ghost use Rattle.dogwood_rules.specs.Tree.{shown};
-ghost use Rattle.dogwood_layout.specs.View.{token_of, Held, Ready};
+ghost use Rattle.dogwood_layout.specs.View.{token_of, Held};
 ghost use Rattle.dogwood_layout.specs.Measure.{span_after, past_byte, past_bytes};
 ghost use Rattle.dogwood_flat.specs.Promises.{SpanIs};
 
 use dogwood_layout::{Entry, Span};
 use dogwood_rows::Kind;
-use dogwood_runs::entry_at;
+use dogwood_runs::{Run, entry_at};
 
 // A byte 80 to BF belongs to the character before it and takes no column.
 fn past_byte(s: Span, b: u8) -> Span
@@ -53,15 +53,15 @@ fn past_token(text: &[u8], e: Entry, s: Span) -> Span
     past_bytes(e.bytes(text), s)
 }
 
-// The width of a table's tokens, each white-space token one blank, and the column behind them where they start in column col.
-pub fn measure(text: &[u8], table: &[u32], col: usize) -> Span
-    requires { Ready text.now table.now × (col < 0x3fff_ffff_ffff_ffff) }
-    ensures { SpanIs text.now table.now col result }
+// The width of a run's tokens, each white-space token one blank, and the column behind them where they start in column col.
+pub fn measure(run: Run, col: usize) -> Span
+    requires { col < 0x3fff_ffff_ffff_ffff }
+    ensures { SpanIs run.entry.text.now run.entry.table.now col result }
 {
     let mut s = Span { width: 0, col: col };
     let mut i: usize = 0;
-    while i < table.len() {
-        s = past_token(text, entry_at(table, i), s);
+    while i < run.table.len() {
+        s = past_token(run.text, entry_at(run.table, i), s);
         i += 3;
     }
     s

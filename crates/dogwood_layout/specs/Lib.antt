@@ -8,3 +8,4 @@ pub mod Pieces
 pub mod Places
 pub mod Feeds
 pub mod Promises
+pub mod Facts

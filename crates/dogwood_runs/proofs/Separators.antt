@@ -7,9 +7,9 @@ use lib.Dec.{eqb}
 use lib.ListN.{get_or}
 use Rattle.std.specs.Prelude.{Option, Some, None}
 use Rattle.std.specs.Option.{option_eq}
-use Rattle.dogwood_runs.specs.declared.run.Separator.{Separator}
-use Rattle.dogwood_runs.specs.declared.run.Separator.TheVariants.{Comma, AndOr}
-use Rattle.dogwood_runs.specs.contracts.run.SeparatorPartialEq.TheImpl.{eq-value}
+use Rattle.dogwood_runs.specs.declared.parts.Separator.{Separator}
+use Rattle.dogwood_runs.specs.declared.parts.Separator.TheVariants.{Comma, AndOr}
+use Rattle.dogwood_runs.specs.contracts.parts.SeparatorPartialEq.TheImpl.{eq-value}
 use Rattle.dogwood_runs.specs.Separators.{set_number}
 
 pub is-comma_set : (s : Option Separator) → option_eq eq-value.it s (Some Comma) ≡ eqb (set_number s) 0

@@ -9,7 +9,7 @@ use Rattle.dogwood_layout.specs.Ends.{front_len, trimmed_of}
 use Rattle.dogwood_layout.specs.Choice.{is_filled, chosen}
 use Rattle.dogwood_layout.specs.Scan.{item_len}
 use Rattle.dogwood_layout.specs.Pieces.{piece_len}
-use Rattle.dogwood_runs.specs.declared.run.Separator.{Separator}
+use Rattle.dogwood_runs.specs.declared.parts.Separator.{Separator}
 use Rattle.dogwood_runs.specs.Separators.{set_number, set_same}
 
 -- r is the entry at word i

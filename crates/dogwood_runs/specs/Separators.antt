@@ -1,7 +1,7 @@
 -- The separator sets of the code and the numbers that the layout speaks of them by.
 use Rattle.std.specs.Prelude.{◌≡◌, refl, ℕ, Option, Some, None}
-use Rattle.dogwood_runs.specs.declared.run.Separator.{Separator}
-use Rattle.dogwood_runs.specs.declared.run.Separator.TheVariants.{Comma, AndOr}
+use Rattle.dogwood_runs.specs.declared.parts.Separator.{Separator}
+use Rattle.dogwood_runs.specs.declared.parts.Separator.TheVariants.{Comma, AndOr}
 
 -- the number of a set, 2 where there is none
 abbrev pub set_number : Option Separator → ℕ

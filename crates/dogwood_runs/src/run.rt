@@ -1,21 +1,15 @@
 // The parts of a run: its ends without white space, its groups and its items.
 ghost use Rattle.std.specs.Prelude.{◌≡◌, ◌*◌, ◌<◌, length};
-ghost use Rattle.dogwood_layout.specs.View.{tokens, Ready};
+ghost use Rattle.dogwood_layout.specs.View.{tokens};
 ghost use Rattle.dogwood_layout.specs.Shape.{Formed};
 ghost use Rattle.dogwood_layout.specs.Ends.{Whole, back_len};
 ghost use Rattle.dogwood_layout.specs.Scan.{group_len};
 ghost use Rattle.dogwood_runs.specs.Promises.{LeadIs, TrimmedIs, FilledIs, ItemIs, PieceIs, SetIs};
 
+use crate::parts::{Run, Separator};
 use crate::table::{cuts_after, cuts_before, depth_after, entry_at, opens};
 use dogwood_layout::Part;
 use dogwood_rows::Kind;
-
-// What cuts an inside into items: commas, or && and ||.
-#[derive(Clone, Copy, PartialEq, Eq)]
-pub enum Separator {
-    Comma,
-    AndOr,
-}
 
 // How many words of white space stand at the front of a table.
 pub fn lead(table: &[u32]) -> usize
@@ -68,14 +62,13 @@ pub fn filled(table: &[u32]) -> bool
 }
 
 // How many words the group at the front of a table has.
-fn group_end(text: &[u8], table: &[u32]) -> usize
-    requires { Ready text.now table.now }
-    ensures { result ≡ 3 * group_len 0 (tokens text.now table.now) }
+fn group_end(run: Run) -> usize
+    ensures { result ≡ 3 * group_len 0 (tokens run.entry.text.now run.entry.table.now) }
 {
     let mut depth: usize = 0;
     let mut i: usize = 0;
-    while i < table.len() {
-        depth = depth_after(text, entry_at(table, i), depth);
+    while i < run.table.len() {
+        depth = depth_after(run.text, entry_at(run.table, i), depth);
         i += 3;
         if depth == 0 {
             break;
@@ -85,22 +78,21 @@ fn group_end(text: &[u8], table: &[u32]) -> usize
 }
 
 // How many words the item at the front of a table has, cut by a set.
-pub fn item_end(text: &[u8], table: &[u32], set: Option<Separator>) -> usize
-    requires { Ready text.now table.now }
-    ensures { ItemIs text.now table.now set result }
+pub fn item_end(run: Run, set: Option<Separator>) -> usize
+    ensures { ItemIs run.entry.text.now run.entry.table.now set result }
 {
     let mut first = true;
     let mut depth: usize = 0;
     let mut i: usize = 0;
-    while i < table.len() {
-        let e = entry_at(table, i);
-        if !first & cuts_before(text, e, set, depth) {
+    while i < run.table.len() {
+        let e = entry_at(run.table, i);
+        if !first & cuts_before(run.text, e, set, depth) {
             return i;
         }
-        if cuts_after(text, e, set, depth) {
+        if cuts_after(run.text, e, set, depth) {
             return i + 3;
         }
-        depth = depth_after(text, e, depth);
+        depth = depth_after(run.text, e, depth);
         first = false;
         i += 3;
     }
@@ -108,28 +100,32 @@ pub fn item_end(text: &[u8], table: &[u32], set: Option<Separator>) -> usize
 }
 
 // How many words the piece at the front of a table has: a token, or a group.
-pub fn piece_end(text: &[u8], table: &[u32]) -> usize
-    requires { Ready text.now table.now × (0 < length table.now) }
-    ensures { PieceIs text.now table.now result }
+pub fn piece_end(run: Run) -> usize
+    requires { 0 < length run.table.now }
+    ensures { PieceIs run.entry.text.now run.entry.table.now result }
 {
-    if opens(text, entry_at(table, 0)) {
-        return group_end(text, table);
+    if opens(run.text, entry_at(run.table, 0)) {
+        return group_end(run);
     }
     3
 }
 
 // Which separator set cuts an inside into more than one item, if one does.
-pub fn split_items(text: &[u8], table: &[u32]) -> Option<Separator>
-    requires { Ready text.now table.now × Formed (tokens text.now table.now) }
-    ensures { SetIs text.now table.now result }
+pub fn split_items(run: Run) -> Option<Separator>
+    requires { Formed (tokens run.text.now run.table.now) }
+    ensures { SetIs run.entry.text.now run.entry.table.now result }
 {
     let mut chosen = None;
     'sets: for set in [Separator::Comma, Separator::AndOr] {
         let mut found: usize = 0;
         let mut i: usize = 0;
-        while i < table.len() {
-            let m = item_end(text, &table[i..], Some(set));
-            found += usize::from(filled(&table[i..i + m]));
+        while i < run.table.len() {
+            let rest = Run {
+                text: run.text,
+                table: &run.table[i..],
+            };
+            let m = item_end(rest, Some(set));
+            found += usize::from(filled(&run.table[i..i + m]));
             if 1 < found {
                 chosen = Some(set);
                 break 'sets;

@@ -6,7 +6,7 @@ ghost use Rattle.dogwood_layout.specs.Scan.{depth_after, cut_after_token, cut_be
 ghost use Rattle.dogwood_runs.specs.Separators.{set_number};
 ghost use Rattle.dogwood_runs.specs.Promises.{EntryIs};
 
-use crate::run::Separator;
+use crate::parts::Separator;
 use dogwood_layout::Entry;
 
 // The entry at a word of the table.
