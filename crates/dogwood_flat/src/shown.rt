@@ -3,10 +3,11 @@ ghost use Rattle.std.specs.Prelude.{◌∷◌, ◌++◌, replicate};
 ghost use Rattle.pen.specs.Over.{Wrote};
 ghost use Rattle.dogwood_rules.specs.Utf8.{encode};
 ghost use Rattle.dogwood_rules.specs.Tree.{shown, joined};
-ghost use Rattle.dogwood_layout.specs.View.{token_of, tokens, Held, Holds};
+ghost use Rattle.dogwood_layout.specs.View.{token_of, tokens, Held};
 
 use dogwood_layout::Entry;
-use dogwood_runs::entry_at;
+use dogwood_rows::Kind;
+use dogwood_runs::{Run, entry_at};
 use pen::{add, clip, put, put_all, put_line};
 
 // Writes one token, white space as one blank.
@@ -14,12 +15,10 @@ pub fn put_token(out: &mut [u8], text: &[u8], e: Entry) -> usize
     requires { Held text.now e }
     ensures { Wrote out.old (encode (shown (token_of text.now e))) result out.new }
 {
-    if e.kind == 0 {
-        return put(out, 32);
+    if e.kind == Kind::Whitespace as u32 {
+        return put(out, b' ');
     }
-    let a = e.start as usize;
-    let b = e.end as usize;
-    put_all(out, &text[a..b])
+    put_all(out, e.bytes(text))
 }
 
 // Writes an LF, n spaces and a token.
@@ -32,17 +31,16 @@ pub fn put_closing(out: &mut [u8], text: &[u8], e: Entry, n: usize) -> usize
     add(a, put_token(&mut out[at..], text, e))
 }
 
-// Writes a table's tokens, each white-space token as one blank.
-pub fn flat(out: &mut [u8], text: &[u8], table: &[u32]) -> usize
-    requires { Holds text.now table.now }
-    ensures { Wrote out.old (encode (joined (tokens text.now table.now))) result out.new }
+// Writes a run's tokens, each white-space token as one blank.
+pub fn flat(out: &mut [u8], run: Run) -> usize
+    ensures { Wrote out.old (encode (joined (tokens run.entry.text.now run.entry.table.now))) result out.new }
 {
     let mut n: usize = 0;
     let mut i: usize = 0;
-    while i < table.len() {
-        let e = entry_at(table, i);
+    while i < run.table.len() {
+        let e = entry_at(run.table, i);
         let at = clip(n, out.len());
-        n = add(n, put_token(&mut out[at..], text, e));
+        n = add(n, put_token(&mut out[at..], run.text, e));
         i += 3;
     }
     n

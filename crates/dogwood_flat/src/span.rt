@@ -1,19 +1,20 @@
 // The width of a run and the column behind it.
 ghost use Rattle.std.specs.Prelude.{◌≡◌, ◌<◌};
 ghost use Rattle.dogwood_rules.specs.Tree.{shown};
-ghost use Rattle.dogwood_layout.specs.View.{token_of, Held, Ready};
+ghost use Rattle.dogwood_layout.specs.View.{token_of, Held};
 ghost use Rattle.dogwood_layout.specs.Measure.{span_after, past_byte, past_bytes};
 ghost use Rattle.dogwood_flat.specs.Promises.{SpanIs};
 
 use dogwood_layout::{Entry, Span};
-use dogwood_runs::entry_at;
+use dogwood_rows::Kind;
+use dogwood_runs::{Run, entry_at};
 
 // A byte 80 to BF belongs to the character before it and takes no column.
 fn past_byte(s: Span, b: u8) -> Span
     requires { (s.width < 0xffff_ffff_ffff_ffff) × (s.col < 0xffff_ffff_ffff_ffff) }
     ensures { result ≡ past_byte s b }
 {
-    if b == 10 {
+    if b == b'\n' {
         return Span {
             width: s.width + 1,
             col: 0,
@@ -33,10 +34,8 @@ fn past_bytes(bytes: &[u8], start: Span) -> Span
     ensures { result ≡ past_bytes start bytes.now }
 {
     let mut s = start;
-    let mut i: usize = 0;
-    while i < bytes.len() {
-        s = past_byte(s, bytes[i]);
-        i += 1;
+    for b in bytes {
+        s = past_byte(s, *b);
     }
     s
 }
@@ -45,26 +44,24 @@ fn past_token(text: &[u8], e: Entry, s: Span) -> Span
     requires { Held text.now e × (s.width < 0x7fff_ffff_ffff_ffff) × (s.col < 0x7fff_ffff_ffff_ffff) }
     ensures { result ≡ span_after s (shown (token_of text.now e)) }
 {
-    if e.kind == 0 {
+    if e.kind == Kind::Whitespace as u32 {
         return Span {
             width: s.width + 1,
             col: s.col + 1,
         };
     }
-    let a = e.start as usize;
-    let b = e.end as usize;
-    past_bytes(&text[a..b], s)
+    past_bytes(e.bytes(text), s)
 }
 
-// The width of a table's tokens, each white-space token one blank, and the column behind them where they start in column col.
-pub fn measure(text: &[u8], table: &[u32], col: usize) -> Span
-    requires { Ready text.now table.now × (col < 0x3fff_ffff_ffff_ffff) }
-    ensures { SpanIs text.now table.now col result }
+// The width of a run's tokens, each white-space token one blank, and the column behind them where they start in column col.
+pub fn measure(run: Run, col: usize) -> Span
+    requires { col < 0x3fff_ffff_ffff_ffff }
+    ensures { SpanIs run.entry.text.now run.entry.table.now col result }
 {
     let mut s = Span { width: 0, col: col };
     let mut i: usize = 0;
-    while i < table.len() {
-        s = past_token(text, entry_at(table, i), s);
+    while i < run.table.len() {
+        s = past_token(run.text, entry_at(run.table, i), s);
         i += 3;
     }
     s

@@ -10,6 +10,7 @@ ghost use Rattle.dogwood_layout.specs.Places.{entries};
 ghost use Rattle.dogwood_formatter.specs.Offers.{Offered};
 
 use dogwood_layout::Page;
+use dogwood_runs::Run;
 use dogwood_statements::top_level_items;
 use pen::put_all;
 use utf8::split_bom;
@@ -36,10 +37,14 @@ pub(crate) fn offer_file(
     ensures { Offered (mark_of source.now ++ encode (join_pieces (settings page) (pieces (statements outline.now).0 (entries (text_of source.now) table.now)))) out.old result out.new }
 {
     let mark = split_bom(source);
-    let size = mark + top_level_items(&mut out[0..0], &source[mark..], outline, table, page);
+    let run = Run {
+        text: &source[mark..],
+        table: table,
+    };
+    let size = mark + top_level_items(&mut out[0..0], run, outline, page);
     if out.len() < size {
         return size;
     }
     put_all(out, &source[0..mark]);
-    mark + top_level_items(&mut out[mark..], &source[mark..], outline, table, page)
+    mark + top_level_items(&mut out[mark..], run, outline, page)
 }

@@ -1,14 +1,14 @@
 -- What each writer of the layout gives: a run, an item, a piece, a broken group.
 use Rattle.std.specs.Prelude.{if◌then◌else◌}
 use mathlib.Core.Path.{◌≡◌, refl, sym, ◌∙◌, ap, subst}
-use mathlib.Core.Bool.{Bool, true, false, ◌||◌}
+use mathlib.Core.Bool.{Bool, true, false, not, ◌||◌}
 use mathlib.Core.List.{List, [], ◌∷◌, ◌++◌, append_assoc}
 use Prim.Native.Nat.{ℕ, zero, suc, ◌+◌, ◌-◌, ◌*◌, ◌/◌, ◌<◌, ◌≤◌}
 use native.Mathlib.Numerals.{add-one}
 use native.Mathlib.Omega.{arith}
-use lib.Dec.{eqb, leb}
+use lib.Dec.{leb}
 use lib.ListN.{length, take, drop, replicate, length-append}
-use borrow.Author.Tests.{eqb-true, eqb-false, leb-true, leb-false, le-leb, lt-leb}
+use borrow.Author.Tests.{leb-true, leb-false, le-leb, lt-leb}
 use Rattle.pen.specs.Over.{Wrote}
 use Rattle.pen.proofs.Laws.{wrote-same}
 use Rattle.dogwood_rules.specs.Basic.{trim, run_length}
@@ -23,7 +23,7 @@ use Rattle.dogwood_layout.specs.Measure.{span_after}
 use Rattle.dogwood_layout.specs.Shape.{Shaped, Formed}
 use Rattle.dogwood_layout.specs.View.{entry_at, token_of, tokens, Ready}
 use Rattle.dogwood_layout.specs.Ends.{front_len}
-use Rattle.dogwood_layout.specs.Choice.{filled_of}
+use Rattle.dogwood_layout.specs.Choice.{is_filled}
 use Rattle.dogwood_layout.specs.Pieces.{Bounded, Measured, OnePiece, one_token, one_group, Broken, broken_group, piece_text, PieceLaid, broken_text, item_text, items_text}
 use Rattle.dogwood_layout.proofs.Bytes.{encode-append}
 use Rattle.dogwood_layout.proofs.Bounds.{length_part}
@@ -143,39 +143,39 @@ module _ (S : Settings) (d n m : ℕ) (text ws : List ℕ) {u : Run} (h : GroupH
   close_word = (closer_word h.close_sound h.closes).0
 
   -- a group stays flat that has nothing inside, or fits
-  pub group_stays : tokens_of u ≡ tokens text ws → {s : Span} → s ≡ span_after (record { width = 0; col = n }) (joined (tokens text ws)) → {r : ℕ} → r ≡ filled_of (take (length ws - 3 - 3) (drop 3 ws))
-      → (eqb r 0 || leb (n + s.width + m) S.width) ≡ true → piece_text S d n m u ≡ joined (tokens text ws)
+  pub group_stays : tokens_of u ≡ tokens text ws → {s : Span} → s ≡ span_after (record { width = 0; col = n }) (joined (tokens text ws)) → {b : Bool} → b ≡ is_filled (take (length ws - 3 - 3) (drop 3 ws))
+      → (not b || leb (n + s.width + m) S.width) ≡ true → piece_text S d n m u ≡ joined (tokens text ws)
   unfolding tokens_of
-  group_stays e {s} q {r} g t = ap (piece_text S d n m) h.whole ∙ go (eqb r 0) refl (leb (n + s.width + m) S.width) refl t ∙ ap joined (sym whole_tokens ∙ e)
+  group_stays e {s} q {b} g t = ap (piece_text S d n m) h.whole ∙ go b refl (leb (n + s.width + m) S.width) refl t ∙ ap joined (sym whole_tokens ∙ e)
     where
       w : s.width ≡ 0 + length (joined group_tokens)
       w = ap (λ (z : Span). z.width) q ∙ ap (λ (ts : List Token). 0 + length (joined ts)) (sym e ∙ whole_tokens)
 
-      go : (x : Bool) → eqb r 0 ≡ x → (y : Bool) → leb (n + s.width + m) S.width ≡ y → (x || y) ≡ true
+      go : (x : Bool) → b ≡ x → (y : Bool) → leb (n + s.width + m) S.width ≡ y → (not x || y) ≡ true
           → piece_text S d n m (group h.o (tokens_of h.inner) (items_of h.inner) h.c nothing) ≡ joined group_tokens
-      go true p y k v =
+      go false p y k v =
           piece-empty S d n m h.o h.c (tokens_of h.inner) (items_of h.inner) open_word close_word
-          (sym (trim-tokens h.shaped) ∙ ap tokens_of (group_none h (sym (eqb-true r 0 p) ∙ g)))
-      go false p true k v =
+          (sym (trim-tokens h.shaped) ∙ ap tokens_of (group_none h (sym g ∙ p)))
+      go true p true k v =
           let l = leb-true (n + s.width + m) S.width k in
           piece-fits S d n m h.o h.c (tokens_of h.inner) (items_of h.inner) open_word close_word (omega (arith, w))
-      go false p false k v = absurd (let z : ◌≡◌ {A = ℕ} 0 1 = cc in omega arith)
+      go true p false k v = absurd (let z : ◌≡◌ {A = ℕ} 0 1 = cc in omega arith)
 
   -- any other is broken
-  pub group_breaks : tokens_of u ≡ tokens text ws → {s : Span} → s ≡ span_after (record { width = 0; col = n }) (joined (tokens text ws)) → {r : ℕ} → r ≡ filled_of (take (length ws - 3 - 3) (drop 3 ws))
-      → (eqb r 0 || leb (n + s.width + m) S.width) ≡ false → Broken u × (piece_text S d n m u ≡ broken_text S d u)
+  pub group_breaks : tokens_of u ≡ tokens text ws → {s : Span} → s ≡ span_after (record { width = 0; col = n }) (joined (tokens text ws)) → {b : Bool} → b ≡ is_filled (take (length ws - 3 - 3) (drop 3 ws))
+      → (not b || leb (n + s.width + m) S.width) ≡ false → Broken u × (piece_text S d n m u ≡ broken_text S d u)
   unfolding tokens_of
-  group_breaks e {s} q {r} g t = go (eqb r 0) refl (leb (n + s.width + m) S.width) refl t
+  group_breaks e {s} q {b} g t = go b refl (leb (n + s.width + m) S.width) refl t
     where
       w : s.width ≡ 0 + length (joined group_tokens)
       w = ap (λ (z : Span). z.width) q ∙ ap (λ (ts : List Token). 0 + length (joined ts)) (sym e ∙ whole_tokens)
 
-      go : (x : Bool) → eqb r 0 ≡ x → (y : Bool) → leb (n + s.width + m) S.width ≡ y → (x || y) ≡ false → Broken u × (piece_text S d n m u ≡ broken_text S d u)
-      go true p y k v = absurd (let z : ◌≡◌ {A = ℕ} 0 1 = cc in omega arith)
-      go false p true k v = absurd (let z : ◌≡◌ {A = ℕ} 0 1 = cc in omega arith)
-      go false p false k v =
+      go : (x : Bool) → b ≡ x → (y : Bool) → leb (n + s.width + m) S.width ≡ y → (not x || y) ≡ false → Broken u × (piece_text S d n m u ≡ broken_text S d u)
+      go false p y k v = absurd (let z : ◌≡◌ {A = ℕ} 0 1 = cc in omega arith)
+      go true p true k v = absurd (let z : ◌≡◌ {A = ℕ} 0 1 = cc in omega arith)
+      go true p false k v =
           let l = leb-false (n + s.width + m) S.width k in
-          let some = group_some h (λ z. eqb-false r 0 p (g ∙ sym z)) in (
+          let some = group_some h (sym g ∙ p) in (
             subst Broken (sym h.whole) (broken_group (λ z. some (no_tokens (trim_run h.inner) (trim-tokens h.shaped ∙ z)))),
             ap (piece_text S d n m) h.whole
                 ∙ piece_broken S d n m h.o h.c (tokens_of h.inner) (items_of h.inner) open_word close_word (flat_some h.shaped some) (omega (arith, w))

@@ -1,13 +1,11 @@
 -- A table without the white space at its ends, and a group without its brackets.
-use Rattle.std.specs.Prelude.{if◌then◌else◌}
 use mathlib.Core.Path.{◌≡◌, refl, sym, ◌∙◌, ap, subst}
-use mathlib.Core.Bool.{Bool, true, false}
+use mathlib.Core.Bool.{true, false}
 use mathlib.Core.List.{List, [], ◌∷◌, ◌++◌}
 use Prim.Native.Nat.{ℕ, suc, ◌+◌, ◌-◌, ◌*◌, ◌<◌, ◌≤◌}
 use native.Mathlib.Omega.{arith}
 use lib.ListN.{length, take, drop, length-append, length-take, length-drop}
 use lib.Seq.{take-append_seam, drop-append_seam, drop-drop}
-use lib.Dec.{ltb}
 use borrow.Author.Tests.{ltb-true, ltb-false}
 use Rattle.dogwood_rules.specs.Basic.{drop_back, trim, run_length}
 use Rattle.dogwood_rules.specs.Token.{Token}
@@ -17,7 +15,7 @@ use Rattle.dogwood_layout.specs.declared.Part.{Part}
 use Rattle.dogwood_layout.specs.Shape.{Sound, blank_sound, word_sound, Shaped, shaped_nothing, shaped_single, shaped_group, Formed}
 use Rattle.dogwood_layout.specs.View.{entry_at, token_of, tokens, Holds, Ready}
 use Rattle.dogwood_layout.specs.Ends.{front_len, back_len, trimmed_of}
-use Rattle.dogwood_layout.specs.Choice.{filled_of}
+use Rattle.dogwood_layout.specs.Choice.{is_filled}
 use Rattle.dogwood_layout.specs.Pieces.{OnePiece, one_token, one_group}
 use Rattle.dogwood_layout.proofs.Tables.{holds_length, holds_drop, ready_part, tokens_at_lem, tokens-drop, tokens-take}
 use Rattle.dogwood_layout.proofs.Ends.{front_run, front_fits, back_fits, front_tokens, back_tokens}
@@ -172,29 +170,19 @@ module _ {text ws : List ℕ} {u : Run} (h : GroupHere text ws u) where
   pub group_inner : run_of (tokens text inside_words) ≡ h.inner
   group_inner = run_from h.shaped h.inside
 
-  pub group_none : 0 ≡ filled_of inside_words → trim_run h.inner ≡ nothing
-  unfolding filled_of
-  group_none e = trim_none h.shaped (go (ltb (3 * front_len inside_words) (length inside_words)) refl)
-    where
-      go : (b : Bool) → ltb (3 * front_len inside_words) (length inside_words) ≡ b → length (tokens_of h.inner) ≤ run_length blank (tokens_of h.inner)
-      go true q = absurd (let z : ◌≡◌ {A = ℕ} 0 1 = e ∙ ap (λ (b : Bool). if b then 1 else 0) q in omega arith)
-      go false q =
-          let a = front_run text inside_words in
-          let l = holds_length text inside_words h.ready.holds in
-          let m = ltb-false (3 * front_len inside_words) (length inside_words) q in
-          rw h.inside (omega arith)
+  pub group_none : is_filled inside_words ≡ false → trim_run h.inner ≡ nothing
+  group_none q =
+      let a = front_run text inside_words in
+      let l = holds_length text inside_words h.ready.holds in
+      let m = ltb-false (3 * front_len inside_words) (length inside_words) q in
+      trim_none h.shaped (rw h.inside (omega arith))
 
-  pub group_some : (0 ≡ filled_of inside_words → ⊥) → trim_run h.inner ≡ nothing → ⊥
-  unfolding filled_of
-  group_some k = trim_some h.shaped (go (ltb (3 * front_len inside_words) (length inside_words)) refl)
-    where
-      go : (b : Bool) → ltb (3 * front_len inside_words) (length inside_words) ≡ b → run_length blank (tokens_of h.inner) < length (tokens_of h.inner)
-      go true q =
-          let a = front_run text inside_words in
-          let l = holds_length text inside_words h.ready.holds in
-          let m = ltb-true (3 * front_len inside_words) (length inside_words) q in
-          rw h.inside (omega arith)
-      go false q = absurd (k (sym (ap (λ (b : Bool). if b then 1 else 0) q)))
+  pub group_some : is_filled inside_words ≡ true → trim_run h.inner ≡ nothing → ⊥
+  group_some q =
+      let a = front_run text inside_words in
+      let l = holds_length text inside_words h.ready.holds in
+      let m = ltb-true (3 * front_len inside_words) (length inside_words) q in
+      trim_some h.shaped (rw h.inside (omega arith))
 
 -- a run that is something shows something
 joined_full : {r : Run} → Shaped r → (r ≡ nothing → ⊥) → joined (tokens_of r) ≡ [] → ⊥

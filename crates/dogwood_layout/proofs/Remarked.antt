@@ -7,7 +7,6 @@ use Prim.Native.Nat.{ℕ, ◌+◌, ◌-◌, ◌<◌, ◌≤◌, min}
 use native.Mathlib.Omega.{arith}
 use lib.Dec.{eqb}
 use lib.ListN.{length, take, drop, replicate}
-use lib.Seq.{take-take}
 use borrow.Author.Tests.{eq-eqb, ne_eqb, eqb-true}
 use borrow.Rule.Slice.PartMut.{put_mid}
 use Rattle.pen.specs.Over.{cap, Wrote}
@@ -20,7 +19,7 @@ use Rattle.dogwood_layout.specs.declared.Entry.{Entry}
 use Rattle.dogwood_layout.specs.View.{entry_at, kind_of, bytes_at, token_of, tokens, Held, Holds}
 use Rattle.dogwood_layout.specs.Feeds.{behind, due_remarks, remarks_due, Due}
 use Rattle.dogwood_layout.proofs.Bytes.{encode-append}
-use Rattle.dogwood_layout.proofs.Tables.{tokens_at_lem, holds_at, entry_there, no_words, bytes-length}
+use Rattle.dogwood_layout.proofs.Tables.{tokens_at_lem, holds_at, entry_there, no_words}
 use Rattle.dogwood_layout.proofs.Kept.{kept_bytes, kept_fits, spelt_whole}
 use Rattle.dogwood_layout.proofs.Dues.{encode_feeds, wrote_more, remarks_more, remarks-later}
 
@@ -52,32 +51,29 @@ remark_none text e n k old = go (comment (token_of text e)) (token-comment text 
     go true q = absurd (let z : ◌≡◌ {A = ℕ} 0 1 = cc in omega arith)
     go false q = record { wrote = wrote-nil old; due = refl }
 
-module _ {text : List ℕ} {e : Entry} (h : Held text e) where
-  pub remark_valid : (decode (bytes_at text e)).1 ≡ []
+module _ {text : List ℕ} {e : Entry} (h : Held text e) {bs : List ℕ} (b : bs ≡ bytes_at text e) where
+  pub remark_valid : (decode bs).1 ≡ []
   unfolding token_of
-  remark_valid = spelt_whole (bytes_at text e) h.spells
+  remark_valid = ap (λ (l : List ℕ). (decode l).1) b ∙ spelt_whole (bytes_at text e) h.spells
 
-  module _ {r : ℕ} (q : r ≡ byte_length (drop_back white (decode (bytes_at text e)).0)) where
-    pub remark-fits : e.start + r ≤ e.end
+  module _ {r : ℕ} (q : r ≡ byte_length (drop_back white (decode bs).0)) where
+    size : r ≡ byte_length (drop_back white (decode (bytes_at text e)).0)
+    size = q ∙ ap (λ (l : List ℕ). byte_length (drop_back white (decode l).0)) b
+
+    pub remark-fits : r ≤ length bs
     unfolding token_of
     remark-fits =
         let k = kept_fits (decode (bytes_at text e)).0 in
         let l = ap length h.spells in
-        let b = bytes-length h in
-        let o = h.ordered in
+        let m = ap length b in
+        let z = size in
         omega arith
 
-    remark-bytes : take (e.start + r - e.start) (drop e.start text) ≡ encode (drop_back white (token_of text e).text)
+    remark-bytes : take r bs ≡ encode (drop_back white (token_of text e).text)
     unfolding token_of
-    remark-bytes =
-        let f = remark-fits in
-        let m : e.start + r - e.start ≡ r = omega arith in
-        ap (λ (n : ℕ). take n (drop e.start text)) m
-        ∙ sym (take-take r (e.end - e.start) (drop e.start text) (omega arith))
-        ∙ (λ j. take (q j) (sym h.spells j))
-        ∙ kept_bytes (decode (bytes_at text e)).0
+    remark-bytes = (λ j. take (size j) ((b ∙ sym h.spells) j)) ∙ kept_bytes (decode (bytes_at text e)).0
 
-    pub remark_written : e.kind ≡ 1 → (n : ℕ) {count : ℕ} {old new : List ℕ} → Wrote old (replicate n 10 ++ take (e.start + r - e.start) (drop e.start text)) count new
+    pub remark_written : e.kind ≡ 1 → (n : ℕ) {count : ℕ} {old new : List ℕ} → Wrote old (replicate n 10 ++ take r bs) count new
         → Due (due_remarks n (token_of text e ∷ [])) (remarks_due n (token_of text e ∷ [])) old count 1 new
     unfolding due_remarks remarks_due
     remark_written k n {count} {old} {new} w = go (comment (token_of text e)) (token-comment text e ∙ eq-eqb e.kind 1 k)
@@ -85,7 +81,7 @@ module _ {text : List ℕ} {e : Entry} (h : Held text e) where
         one : List ℕ
         one = drop_back white (token_of text e).text
 
-        same : replicate n 10 ++ take (e.start + r - e.start) (drop e.start text) ≡ encode (behind n (one ++ []))
+        same : replicate n 10 ++ take r bs ≡ encode (behind n (one ++ []))
         same =
             (λ j. sym (encode_feeds n) j ++ remark-bytes j)
             ∙ sym (encode-append (replicate n 10) one)

@@ -6,6 +6,7 @@ use mathlib.Core.List.{List, [], ◌∷◌}
 use Prim.Native.Nat.{ℕ, zero, suc, ◌+◌, ◌-◌, ◌*◌, ◌<◌, ◌≤◌}
 use native.Mathlib.Omega.{arith}
 use lib.Dec.{eqb, ltb}
+use mir.Val.{bool_byte}
 use lib.ListN.{length, take, drop, length-append, length-drop}
 use lib.Seq.{take-append_seam, drop-append_seam}
 use borrow.Author.Tests.{eqb-true, eqb-false, lt-ltb, le-ltb, ltb-true, ltb-false}
@@ -16,7 +17,7 @@ use Rattle.dogwood_rules.proofs.Trim.{front_drops, front_keeps, back_keeps}
 use Rattle.dogwood_layout.specs.Shape.{Shaped, Formed}
 use Rattle.dogwood_layout.specs.Scan.{depth_after, cut_after_token, cut_len, item_len}
 use Rattle.dogwood_layout.specs.Ends.{front_len}
-use Rattle.dogwood_layout.specs.Choice.{cuts_of, chosen, filled_of}
+use Rattle.dogwood_layout.specs.Choice.{cuts_of, chosen, is_filled, filled_of}
 use Rattle.dogwood_layout.specs.View.{tokens, Holds, Ready}
 use Rattle.dogwood_layout.proofs.Tables.{holds_length, no_words, part_rest, tokens-part, tokens-later, holds_later, ready_part}
 use Rattle.dogwood_layout.proofs.Ends.{front_run}
@@ -227,27 +228,15 @@ sets_stop r zero a h k = chosen_by r true (several (tidy (cuts_of 1 r))) (count_
 sets_stop r (suc zero) a h k = chosen_by r false true (count_few _ (a.none 0 (omega arith))) (count_two _ k)
 sets_stop r (suc (suc n)) a h k = absurd (omega arith)
 
-pub sets_end : (r : Run) (set : ℕ) → SetsAt r set → 2 ≤ set → set ≡ chosen r
+pub sets_end : (r : Run) (set : ℕ) → SetsAt r set → 2 ≤ set → 2 ≡ chosen r
 sets_end r set a h =
-    let l = a.low in
-    let e : set ≡ 2 = omega arith in
-    e ∙ chosen_by r false false (count_few _ (a.none 0 (omega arith))) (count_few _ (a.none 1 (omega arith)))
+    chosen_by r false false (count_few _ (a.none 0 (omega arith))) (count_few _ (a.none 1 (omega arith)))
 
-pub filled_yes : (ws : List ℕ) {n : ℕ} → n ≡ 3 * front_len ws → n < length ws → 1 ≡ filled_of ws
+-- one more for a table that is filled
+pub filled-count : (ws : List ℕ) {b : Bool} → b ≡ is_filled ws → bool_byte b ≡ filled_of ws
 unfolding filled_of
-filled_yes ws e h = ap (λ (b : Bool). if b then 1 else 0) (sym (lt-ltb (3 * front_len ws) (length ws) (omega arith)))
-
-pub filled_no : (ws : List ℕ) {n : ℕ} → n ≡ 3 * front_len ws → length ws ≤ n → 0 ≡ filled_of ws
-unfolding filled_of
-filled_no ws e h = ap (λ (b : Bool). if b then 1 else 0) (sym (le-ltb (3 * front_len ws) (length ws) (omega arith)))
-
-pub filled_bound : (ws : List ℕ) → filled_of ws ≤ 1
-unfolding filled_of
-filled_bound ws = go (ltb (3 * front_len ws) (length ws))
+filled-count ws e = ap bool_byte e ∙ go (is_filled ws)
   where
-    go : (b : Bool) → (if b then 1 else 0) ≤ 1
-    go true = omega arith
-    go false = omega arith
-
-pub filled-le : (ws : List ℕ) {r : ℕ} → r ≡ filled_of ws → r ≤ 1
-filled-le ws e = let b = filled_bound ws in omega arith
+    go : (b : Bool) → bool_byte b ≡ (if b then 1 else 0)
+    go true = refl
+    go false = refl

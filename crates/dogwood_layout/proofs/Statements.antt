@@ -6,7 +6,7 @@ use mathlib.Core.List.{List, [], ◌∷◌, ◌++◌, append-nil, append_assoc}
 use Prim.Native.Nat.{ℕ, suc, ◌+◌, ◌-◌, ◌*◌, ◌<◌, ◌≤◌, min}
 use native.Mathlib.Numerals.{add-one, add-two}
 use native.Mathlib.Omega.{arith}
-use lib.Dec.{leb, ltb}
+use lib.Dec.{leb}
 use lib.ListN.{length, take, drop, get_or, replicate, length-drop, drop_of_length-le}
 use lib.Seq.{drop-cons, drop-drop}
 use borrow.Author.Tests.{ltb-true, ltb-false}
@@ -30,7 +30,7 @@ use Rattle.dogwood_layout.specs.declared.Page.{Page}
 use Rattle.dogwood_layout.specs.Shape.{Formed}
 use Rattle.dogwood_layout.specs.View.{tokens, Holds, Ready}
 use Rattle.dogwood_layout.specs.Ends.{Whole, front_len}
-use Rattle.dogwood_layout.specs.Choice.{filled_of}
+use Rattle.dogwood_layout.specs.Choice.{is_filled}
 use Rattle.dogwood_layout.specs.Pieces.{Bounded}
 use Rattle.dogwood_layout.specs.Places.{entries, before_len, pairs, Paired}
 use Rattle.dogwood_layout.specs.Feeds.{behind, due_lines, lines_due, Due}
@@ -84,45 +84,35 @@ layout_some S ts p h e =
     go (o ∷ os) a f z = firm_full o os a z
 
 module _ (text ws : List ℕ) (h : Holds text ws) where
-  filled_none : filled_of ws ≡ 0 → length (tokens text ws) ≤ run_length blank (tokens text ws)
-  unfolding filled_of
-  filled_none e = go (ltb (3 * front_len ws) (length ws)) refl
-    where
-      go : (b : Bool) → ltb (3 * front_len ws) (length ws) ≡ b → length (tokens text ws) ≤ run_length blank (tokens text ws)
-      go true q = absurd (let z : ◌≡◌ {A = ℕ} 1 0 = sym (ap (λ (b : Bool). if b then 1 else 0) q) ∙ e in omega arith)
-      go false q =
-          let a = front_run text ws in
-          let l = holds_length text ws h in
-          let m = ltb-false (3 * front_len ws) (length ws) q in
-          omega arith
+  filled_none : is_filled ws ≡ false → length (tokens text ws) ≤ run_length blank (tokens text ws)
+  filled_none q =
+      let a = front_run text ws in
+      let l = holds_length text ws h in
+      let m = ltb-false (3 * front_len ws) (length ws) q in
+      omega arith
 
-  filled_some : (filled_of ws ≡ 0 → ⊥) → run_length blank (tokens text ws) < length (tokens text ws)
-  unfolding filled_of
-  filled_some k = go (ltb (3 * front_len ws) (length ws)) refl
-    where
-      go : (b : Bool) → ltb (3 * front_len ws) (length ws) ≡ b → run_length blank (tokens text ws) < length (tokens text ws)
-      go true q =
-          let a = front_run text ws in
-          let l = holds_length text ws h in
-          let m = ltb-true (3 * front_len ws) (length ws) q in
-          omega arith
-      go false q = absurd (k (ap (λ (b : Bool). if b then 1 else 0) q))
+  filled_some : is_filled ws ≡ true → run_length blank (tokens text ws) < length (tokens text ws)
+  filled_some q =
+      let a = front_run text ws in
+      let l = holds_length text ws h in
+      let m = ltb-true (3 * front_len ws) (length ws) q in
+      omega arith
 
-  module _ (S : Settings) (p : Part (tokens text ws)) {r : ℕ} (q : r ≡ filled_of ws) (n : ℕ) where
+  module _ (S : Settings) (p : Part (tokens text ws)) {b : Bool} (q : b ≡ is_filled ws) (n : ℕ) where
     abbrev line : List ℕ
     line = layout S 0 (tokens text ws)
 
-    pub part_none : r ≡ 0 → (old : List ℕ) → Due (due_lines n (add_line line [])) (lines_due n (add_line line [])) old 0 n old
+    pub part_none : b ≡ false → (old : List ℕ) → Due (due_lines n (add_line line [])) (lines_due n (add_line line [])) old 0 n old
     unfolding due_lines lines_due add_line encode
     part_none z old =
         let e : line ≡ [] = layout_none S (tokens text ws) (formed (tokens text ws) p.sound p.balance) (filled_none (sym q ∙ z)) in
         subst (λ (l : List ℕ). Due (due_lines n (add_line l [])) (lines_due n (add_line l [])) old 0 n old) (sym e) (record { wrote = wrote-nil old; due = refl })
 
-    pub part_written : (r ≡ 0 → ⊥) → {count : ℕ} {old new : List ℕ} → Wrote old (replicate n 10 ++ encode line) count new
+    pub part_written : b ≡ true → {count : ℕ} {old new : List ℕ} → Wrote old (replicate n 10 ++ encode line) count new
         → Due (due_lines n (add_line line [])) (lines_due n (add_line line [])) old count 1 new
     unfolding due_lines lines_due
     part_written z {count} {old} {new} w =
-        let e : add_line line [] ≡ line ∷ [] = line_added line (layout_some S (tokens text ws) p (filled_some (λ y. z (q ∙ y)))) in
+        let e : add_line line [] ≡ line ∷ [] = line_added line (layout_some S (tokens text ws) p (filled_some (sym q ∙ z))) in
         let same : replicate n 10 ++ encode line ≡ encode (behind n (line ++ [])) =
         ap (λ (l : List ℕ). l ++ encode line) (sym (encode_feeds n)) ∙ sym (encode-append (replicate n 10) line) ∙ ap (λ (l : List ℕ). encode (behind n l)) (sym (append-nil line)) in
         subst (λ (ls : List (List ℕ)). Due (due_lines n ls) (lines_due n ls) old count 1 new) (sym e) (record { wrote = wrote-same same w; due = refl })

@@ -1,7 +1,7 @@
 -- Laws of the view of a table: its parts, and what an entry's token says.
 use Rattle.std.specs.Prelude.{if◌then◌else◌}
 use mathlib.Core.Path.{◌≡◌, refl, sym, ◌∙◌, ap, subst}
-use mathlib.Core.Bool.{Bool, true, false, ◌&&◌}
+use mathlib.Core.Bool.{Bool, true, false, ◌&&◌, ◌||◌}
 use mathlib.Core.List.{List, [], ◌∷◌}
 use Prim.Native.Nat.{ℕ, zero, suc, ◌+◌, ◌-◌, ◌*◌, ◌<◌, ◌≤◌}
 use native.Mathlib.Numerals.{add-one, add-two, add-three}
@@ -13,10 +13,10 @@ use borrow.Author.Tests.{eq-eqb, ne_eqb}
 use Rattle.dogwood_rules.specs.Basic.{same}
 use Rattle.dogwood_rules.specs.Utf8.{encode}
 use Rattle.dogwood_rules.specs.Token.{Token, Whitespace, Comment, String, Identifier, Number, Symbol, Other}
-use Rattle.dogwood_rules.specs.Tree.{blank, is_whitespace, shown}
+use Rattle.dogwood_rules.specs.Tree.{blank, comma, and_or, opener, closer, is_whitespace, shown}
 use Rattle.dogwood_layout.specs.declared.Entry.{Entry}
 use Rattle.dogwood_layout.specs.View.{entry_at, kind_of, bytes_at, token_of, tokens, Held, Holds, Ready}
-use Rattle.dogwood_layout.proofs.Bytes.{Ascii, same-encode, same_differ, encode_longer}
+use Rattle.dogwood_layout.proofs.Bytes.{Ascii, same-encode, encode_longer}
 
 -- The table ---------------------------------------------------------------------------------------------------
 
@@ -91,30 +91,70 @@ bytes-length {text} {e} h = let a = h.ordered in let b = h.inside in simp (lengt
 pub token-same : {text : List ℕ} {e : Entry} → Held text e → (q : List ℕ) → Ascii q → same (token_of text e).text q ≡ same (bytes_at text e) q
 token-same {text} {e} h q a = same-encode (token_of text e).text q a ∙ ap (λ (l : List ℕ). same l q) h.spells
 
-pub token_differs : {text : List ℕ} {e : Entry} → Held text e → (q : List ℕ) → Ascii q → (e.end - e.start ≡ length q → ⊥) → same (token_of text e).text q ≡ false
-token_differs {text} {e} h q a d = token-same h q a ∙ same_differ (bytes_at text e) q (λ l. d (sym (bytes-length h) ∙ l))
-
-pub token_byte : {text : List ℕ} {e : Entry} → Held text e → (b : ℕ) → b < 128 → e.end - e.start ≡ 1 → same (token_of text e).text (b ∷ []) ≡ eqb (get_or text e.start 0) b
-token_byte {text} {e} h b k l =
-    let a = h.ordered in
-    let i = h.inside in
-    token-same h (b ∷ []) (k, tt) ∙ rw (l, drop-cons text e.start 0 (omega arith)) (and_true (eqb (get_or text e.start 0) b))
+-- a text of one byte, or of two, is told by its length and its bytes
+byte_at : (bs : List ℕ) (b : ℕ) → same bs (b ∷ []) ≡ (eqb (length bs) 1 && eqb (get_or bs 0 0) b)
+byte_at [] b = refl
+byte_at (x ∷ []) b = go (eqb x b)
   where
-    and_true : (x : Bool) → (x && true) ≡ x
-    and_true true = refl
-    and_true false = refl
-
-pub token_pair : {text : List ℕ} {e : Entry} → Held text e → (b : ℕ) → b < 128 → e.end - e.start ≡ 2
-    → same (token_of text e).text (b ∷ b ∷ []) ≡ (eqb (get_or text e.start 0) b && eqb (get_or text (e.start + 1) 0) b)
-token_pair {text} {e} h b k l =
-    let a = h.ordered in
-    let i = h.inside in
-    token-same h (b ∷ b ∷ []) (k, (k, tt)) ∙ rw (l, add-one, drop-cons text e.start 0 (omega arith), drop-cons text (suc e.start) 0 (omega arith)) (and_true (eqb (get_or text e.start 0) b) (eqb (get_or text (suc e.start) 0) b))
+    go : (e : Bool) → (e && true) ≡ e
+    go true = refl
+    go false = refl
+byte_at (x ∷ y ∷ bs) b = go (eqb x b) ∙ ap (λ (e : Bool). e && eqb x b) (sym (ne_eqb (suc (suc (length bs))) 1 (λ z. omega arith)))
   where
-    and_true : (x y : Bool) → (x && (y && true)) ≡ (x && y)
-    and_true true true = refl
-    and_true true false = refl
-    and_true false y = refl
+    go : (e : Bool) → (e && false) ≡ false
+    go true = refl
+    go false = refl
+
+pair_at : (bs : List ℕ) (b : ℕ) → same bs (b ∷ b ∷ []) ≡ (eqb (length bs) 2 && (eqb (get_or bs 0 0) b && eqb (get_or bs 1 0) b))
+pair_at [] b = refl
+pair_at (x ∷ []) b = go (eqb x b)
+  where
+    go : (e : Bool) → (e && false) ≡ false
+    go true = refl
+    go false = refl
+pair_at (x ∷ y ∷ []) b = go (eqb x b) (eqb y b)
+  where
+    go : (e f : Bool) → (e && (f && true)) ≡ (e && f)
+    go true true = refl
+    go true false = refl
+    go false f = refl
+pair_at (x ∷ y ∷ z ∷ bs) b = go (eqb x b) (eqb y b) ∙ ap (λ (e : Bool). e && (eqb x b && eqb y b)) (sym (ne_eqb (suc (suc (suc (length bs)))) 2 (λ z. omega arith)))
+  where
+    go : (e f : Bool) → (e && (f && false)) ≡ false
+    go true true = refl
+    go true false = refl
+    go false f = refl
+
+-- so is one of three bytes
+one_at : (bs : List ℕ) (a b c : ℕ) → (same bs (a ∷ []) || same bs (b ∷ []) || same bs (c ∷ [])) ≡ (eqb (length bs) 1 && (eqb (get_or bs 0 0) a || eqb (get_or bs 0 0) b || eqb (get_or bs 0 0) c))
+one_at bs a b c = (λ i. byte_at bs a i || byte_at bs b i || byte_at bs c i) ∙ go (eqb (length bs) 1)
+  where
+    go : (e : Bool) → ((e && eqb (get_or bs 0 0) a) || (e && eqb (get_or bs 0 0) b) || (e && eqb (get_or bs 0 0) c)) ≡ (e && (eqb (get_or bs 0 0) a || eqb (get_or bs 0 0) b || eqb (get_or bs 0 0) c))
+    go true = refl
+    go false = refl
+
+module _ {text : List ℕ} {e : Entry} (h : Held text e) {bs : List ℕ} (q : bs ≡ bytes_at text e) where
+  pub token-same_bytes : (w : List ℕ) → Ascii w → same (token_of text e).text w ≡ same bs w
+  token-same_bytes w a = token-same h w a ∙ ap (λ (l : List ℕ). same l w) (sym q)
+
+  pub opener_at : opener (token_of text e) ≡ (eqb (length bs) 1 && (eqb (get_or bs 0 0) 40 || eqb (get_or bs 0 0) 91 || eqb (get_or bs 0 0) 123))
+  unfolding opener
+  opener_at = (λ i. token-same_bytes (40 ∷ []) (omega arith, tt) i || token-same_bytes (91 ∷ []) (omega arith, tt) i || token-same_bytes (123 ∷ []) (omega arith, tt) i) ∙ one_at bs 40 91 123
+
+  pub closer_at : closer (token_of text e) ≡ (eqb (length bs) 1 && (eqb (get_or bs 0 0) 41 || eqb (get_or bs 0 0) 93 || eqb (get_or bs 0 0) 125))
+  unfolding closer
+  closer_at = (λ i. token-same_bytes (41 ∷ []) (omega arith, tt) i || token-same_bytes (93 ∷ []) (omega arith, tt) i || token-same_bytes (125 ∷ []) (omega arith, tt) i) ∙ one_at bs 41 93 125
+
+  pub comma_at : comma (token_of text e) ≡ (eqb (length bs) 1 && eqb (get_or bs 0 0) 44)
+  unfolding comma
+  comma_at = token-same_bytes (44 ∷ []) (omega arith, tt) ∙ byte_at bs 44
+
+  pub and-or_at : and_or (token_of text e) ≡ ((eqb (length bs) 2 && (eqb (get_or bs 0 0) 38 && eqb (get_or bs 1 0) 38)) || (eqb (length bs) 2 && (eqb (get_or bs 0 0) 124 && eqb (get_or bs 1 0) 124)))
+  unfolding and_or
+  and-or_at =
+      let a : same (token_of text e).text (38 ∷ 38 ∷ []) ≡ same bs (38 ∷ 38 ∷ []) = token-same_bytes (38 ∷ 38 ∷ []) (omega arith, (omega arith, tt)) in
+      let o : same (token_of text e).text (124 ∷ 124 ∷ []) ≡ same bs (124 ∷ 124 ∷ []) = token-same_bytes (124 ∷ 124 ∷ []) (omega arith, (omega arith, tt)) in
+      λ i. (a ∙ pair_at bs 38) i || (o ∙ pair_at bs 124) i
 
 -- white space is told by the kind
 pub token-blank : (text : List ℕ) (e : Entry) → blank (token_of text e) ≡ eqb e.kind 0

@@ -20,6 +20,10 @@ cuts_of set (group o inside is c r) = front (group o inside is c) (cuts_of set r
 unfoldable pub chosen : Run → ℕ
 chosen r = if several (tidy (cuts_of 0 r)) then 0 else if several (tidy (cuts_of 1 r)) then 1 else 2
 
+-- a table has more than white space
+abbrev pub is_filled : List ℕ → Bool
+is_filled ws = ltb (3 * front_len ws) (length ws)
+
 -- 1 for a table that has more than white space
 unfoldable pub filled_of : List ℕ → ℕ
 filled_of ws = if ltb (3 * front_len ws) (length ws) then 1 else 0

@@ -7,3 +7,5 @@ pub mod Ends
 pub mod Pieces
 pub mod Places
 pub mod Feeds
+pub mod Promises
+pub mod Facts

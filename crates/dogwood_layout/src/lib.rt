@@ -1,4 +1,4 @@
-// What the layout speaks of: definitions of its pieces and the laws about them. No function.
+// What the layout speaks of: definitions of its pieces and the laws about them. One function, which reads a token's bytes.
 #![tactic(auto)]
 
 // A token's kind, and its bounds in the text.
@@ -7,6 +7,19 @@ pub struct Entry {
     pub kind: u32,
     pub start: u32,
     pub end: u32,
+}
+
+impl Entry {
+    ghost use Rattle.dogwood_layout.specs.View.{Held};
+    ghost use Rattle.dogwood_layout.specs.Promises.{BytesAre};
+
+    // What the token spells.
+    pub fn bytes(self, text: &[u8]) -> &[u8]
+        requires { Held text.now self }
+        ensures { BytesAre text.now self result.now }
+    {
+        &text[self.start as usize..self.end as usize]
+    }
 }
 
 // The width of a text and the column behind it.

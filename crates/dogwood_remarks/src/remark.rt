@@ -3,12 +3,13 @@ ghost use Rattle.std.specs.Prelude.{◌≡◌, [], ◌∷◌};
 ghost use Rattle.dogwood_rules.specs.Basic.{drop_back};
 ghost use Rattle.dogwood_rules.specs.Utf8.{decode, byte_length};
 ghost use Rattle.dogwood_rules.specs.Token.{white};
-ghost use Rattle.dogwood_layout.specs.View.{token_of, tokens, Held, Holds};
+ghost use Rattle.dogwood_layout.specs.View.{token_of, tokens, Held};
 ghost use Rattle.dogwood_layout.specs.Feeds.{due_remarks, remarks_due, Due};
 
 use dogwood_layout::{Entry, Written};
 use dogwood_letters::is_space;
-use dogwood_runs::entry_at;
+use dogwood_rows::Kind;
+use dogwood_runs::{Run, entry_at};
 use pen::{add, clip, put_all, put_copies};
 use utf8::{Char, decode};
 
@@ -44,34 +45,31 @@ fn put_remark(out: &mut [u8], text: &[u8], e: Entry, feeds: usize) -> Written
     requires { Held text.now e }
     ensures { Due (due_remarks feeds (token_of text.now e ∷ [])) (remarks_due feeds (token_of text.now e ∷ [])) out.old result.count result.feeds out.new }
 {
-    if e.kind != 1 {
+    if e.kind != Kind::Comment as u32 {
         return Written {
             count: 0,
             feeds: feeds,
         };
     }
-    let a = e.start as usize;
-    let b = e.end as usize;
-    let end = a + kept(&text[a..b]);
-    let n = put_copies(out, 10, feeds);
+    let bytes = e.bytes(text);
+    let n = put_copies(out, b'\n', feeds);
     let at = clip(n, out.len());
     Written {
-        count: add(n, put_all(&mut out[at..], &text[a..end])),
+        count: add(n, put_all(&mut out[at..], &bytes[..kept(bytes)])),
         feeds: 1,
     }
 }
 
-// Writes the comments among a table's tokens.
-pub fn put_remarks(out: &mut [u8], text: &[u8], table: &[u32], feeds: usize) -> Written
-    requires { Holds text.now table.now }
-    ensures { Due (due_remarks feeds (tokens text.now table.now)) (remarks_due feeds (tokens text.now table.now)) out.old result.count result.feeds out.new }
+// Writes the comments among a run's tokens.
+pub fn put_remarks(out: &mut [u8], run: Run, feeds: usize) -> Written
+    ensures { Due (due_remarks feeds (tokens run.entry.text.now run.entry.table.now)) (remarks_due feeds (tokens run.entry.text.now run.entry.table.now)) out.old result.count result.feeds out.new }
 {
     let mut n: usize = 0;
     let mut due = feeds;
     let mut i: usize = 0;
-    while i < table.len() {
+    while i < run.table.len() {
         let at = clip(n, out.len());
-        let remark = put_remark(&mut out[at..], text, entry_at(table, i), due);
+        let remark = put_remark(&mut out[at..], run.text, entry_at(run.table, i), due);
         n = add(n, remark.count);
         due = remark.feeds;
         i += 3;

@@ -1,14 +1,16 @@
 -- What the functions of this crate promise. Each promise is one equation, and no second answer keeps it.
-use Rattle.std.specs.Prelude.{◌≡◌, true, List, ℕ, ◌*◌}
+use Rattle.std.specs.Prelude.{◌≡◌, Bool, true, List, ℕ, ◌*◌, Option}
 use Rattle.std.proofs.Common.{sym, ◌∙◌}
 use Rattle.dogwood_rules.specs.Tree.{run_of}
 use Rattle.dogwood_layout.specs.declared.Entry.{Entry}
 use Rattle.dogwood_layout.specs.declared.Part.{Part}
 use Rattle.dogwood_layout.specs.View.{entry_at, tokens}
 use Rattle.dogwood_layout.specs.Ends.{front_len, trimmed_of}
-use Rattle.dogwood_layout.specs.Choice.{filled_of, chosen}
+use Rattle.dogwood_layout.specs.Choice.{is_filled, chosen}
 use Rattle.dogwood_layout.specs.Scan.{item_len}
 use Rattle.dogwood_layout.specs.Pieces.{piece_len}
+use Rattle.dogwood_runs.specs.declared.parts.Separator.{Separator}
+use Rattle.dogwood_runs.specs.Separators.{set_number, set_same}
 
 -- r is the entry at word i
 abbrev pub EntryIs : List ℕ → ℕ → Entry → Type 0
@@ -31,18 +33,18 @@ TrimmedIs table r = r ≡ trimmed_of table
 pub trimmed_only : (table : List ℕ) (r r' : Part) → TrimmedIs table r → TrimmedIs table r' → r ≡ r'
 trimmed_only table r r' p q = p ∙ sym q
 
--- r is 1 for a table that has more than white space, else 0
-abbrev pub FilledIs : List ℕ → ℕ → Type 0
-FilledIs table r = r ≡ filled_of table
+-- r says whether a table has more than white space
+abbrev pub FilledIs : List ℕ → Bool → Type 0
+FilledIs table r = r ≡ is_filled table
 
-pub filled_only : (table : List ℕ) (r r' : ℕ) → FilledIs table r → FilledIs table r' → r ≡ r'
+pub filled_only : (table : List ℕ) (r r' : Bool) → FilledIs table r → FilledIs table r' → r ≡ r'
 filled_only table r r' p q = p ∙ sym q
 
 -- r is how many words the item at the front has, cut by a set
-abbrev pub ItemIs : List ℕ → List ℕ → ℕ → ℕ → Type 0
-ItemIs text table set r = r ≡ 3 * item_len true set 0 (tokens text table)
+abbrev pub ItemIs : List ℕ → List ℕ → Option Separator → ℕ → Type 0
+ItemIs text table set r = r ≡ 3 * item_len true (set_number set) 0 (tokens text table)
 
-pub item_only : (text table : List ℕ) (set r r' : ℕ) → ItemIs text table set r → ItemIs text table set r' → r ≡ r'
+pub item_only : (text table : List ℕ) (set : Option Separator) (r r' : ℕ) → ItemIs text table set r → ItemIs text table set r' → r ≡ r'
 item_only text table set r r' p q = p ∙ sym q
 
 -- r is how many words the piece at the front has
@@ -52,9 +54,9 @@ PieceIs text table r = r ≡ 3 * piece_len (tokens text table)
 pub piece_only : (text table : List ℕ) (r r' : ℕ) → PieceIs text table r → PieceIs text table r' → r ≡ r'
 piece_only text table r r' p q = p ∙ sym q
 
--- r is the first separator set that gives more than one item, or 2
-abbrev pub SetIs : List ℕ → List ℕ → ℕ → Type 0
-SetIs text table r = r ≡ chosen (run_of (tokens text table))
+-- r is the first separator set that gives more than one item, if one does
+abbrev pub SetIs : List ℕ → List ℕ → Option Separator → Type 0
+SetIs text table r = set_number r ≡ chosen (run_of (tokens text table))
 
-pub set_only : (text table : List ℕ) (r r' : ℕ) → SetIs text table r → SetIs text table r' → r ≡ r'
-set_only text table r r' p q = p ∙ sym q
+pub set_only : (text table : List ℕ) (r r' : Option Separator) → SetIs text table r → SetIs text table r' → r ≡ r'
+set_only text table r r' p q = set_same r r' (p ∙ sym q)

@@ -1,13 +1,15 @@
 // The parts of a run: its ends without white space, its groups and its items.
 ghost use Rattle.std.specs.Prelude.{◌≡◌, ◌*◌, ◌<◌, length};
-ghost use Rattle.dogwood_layout.specs.View.{tokens, Ready};
+ghost use Rattle.dogwood_layout.specs.View.{tokens};
 ghost use Rattle.dogwood_layout.specs.Shape.{Formed};
 ghost use Rattle.dogwood_layout.specs.Ends.{Whole, back_len};
 ghost use Rattle.dogwood_layout.specs.Scan.{group_len};
 ghost use Rattle.dogwood_runs.specs.Promises.{LeadIs, TrimmedIs, FilledIs, ItemIs, PieceIs, SetIs};
 
+use crate::parts::{Run, Separator};
 use crate::table::{cuts_after, cuts_before, depth_after, entry_at, opens};
 use dogwood_layout::Part;
+use dogwood_rows::Kind;
 
 // How many words of white space stand at the front of a table.
 pub fn lead(table: &[u32]) -> usize
@@ -16,7 +18,7 @@ pub fn lead(table: &[u32]) -> usize
 {
     let mut i: usize = 0;
     while i < table.len() {
-        if table[i] != 0 {
+        if table[i] != Kind::Whitespace as u32 {
             break;
         }
         i += 3;
@@ -31,7 +33,7 @@ fn solid(table: &[u32]) -> usize
 {
     let mut n = table.len();
     while 0 < n {
-        if table[n - 3] != 0 {
+        if table[n - 3] != Kind::Whitespace as u32 {
             break;
         }
         n -= 3;
@@ -51,23 +53,22 @@ pub fn trimmed(table: &[u32]) -> Part
     }
 }
 
-// 1 for a table that has more than white space, else 0.
-pub fn filled(table: &[u32]) -> usize
+// A table has more than white space.
+pub fn filled(table: &[u32]) -> bool
     requires { Whole table.now }
     ensures { FilledIs table.now result }
 {
-    if lead(table) < table.len() { 1 } else { 0 }
+    lead(table) < table.len()
 }
 
 // How many words the group at the front of a table has.
-fn group_end(text: &[u8], table: &[u32]) -> usize
-    requires { Ready text.now table.now }
-    ensures { result ≡ 3 * group_len 0 (tokens text.now table.now) }
+fn group_end(run: Run) -> usize
+    ensures { result ≡ 3 * group_len 0 (tokens run.entry.text.now run.entry.table.now) }
 {
     let mut depth: usize = 0;
     let mut i: usize = 0;
-    while i < table.len() {
-        depth = depth_after(text, entry_at(table, i), depth);
+    while i < run.table.len() {
+        depth = depth_after(run.text, entry_at(run.table, i), depth);
         i += 3;
         if depth == 0 {
             break;
@@ -77,22 +78,21 @@ fn group_end(text: &[u8], table: &[u32]) -> usize
 }
 
 // How many words the item at the front of a table has, cut by a set.
-pub fn item_end(text: &[u8], table: &[u32], set: usize) -> usize
-    requires { Ready text.now table.now }
-    ensures { ItemIs text.now table.now set result }
+pub fn item_end(run: Run, set: Option<Separator>) -> usize
+    ensures { ItemIs run.entry.text.now run.entry.table.now set result }
 {
     let mut first = true;
     let mut depth: usize = 0;
     let mut i: usize = 0;
-    while i < table.len() {
-        let e = entry_at(table, i);
-        if !first & cuts_before(text, e, set, depth) {
+    while i < run.table.len() {
+        let e = entry_at(run.table, i);
+        if !first & cuts_before(run.text, e, set, depth) {
             return i;
         }
-        if cuts_after(text, e, set, depth) {
+        if cuts_after(run.text, e, set, depth) {
             return i + 3;
         }
-        depth = depth_after(text, e, depth);
+        depth = depth_after(run.text, e, depth);
         first = false;
         i += 3;
     }
@@ -100,34 +100,38 @@ pub fn item_end(text: &[u8], table: &[u32], set: usize) -> usize
 }
 
 // How many words the piece at the front of a table has: a token, or a group.
-pub fn piece_end(text: &[u8], table: &[u32]) -> usize
-    requires { Ready text.now table.now × (0 < length table.now) }
-    ensures { PieceIs text.now table.now result }
+pub fn piece_end(run: Run) -> usize
+    requires { 0 < length run.table.now }
+    ensures { PieceIs run.entry.text.now run.entry.table.now result }
 {
-    if opens(text, entry_at(table, 0)) {
-        return group_end(text, table);
+    if opens(run.text, entry_at(run.table, 0)) {
+        return group_end(run);
     }
     3
 }
 
-// Which separator set cuts an inside into more than one item: 0, 1, or 2 for neither.
-pub fn split_items(text: &[u8], table: &[u32]) -> usize
-    requires { Ready text.now table.now × Formed (tokens text.now table.now) }
-    ensures { SetIs text.now table.now result }
+// Which separator set cuts an inside into more than one item, if one does.
+pub fn split_items(run: Run) -> Option<Separator>
+    requires { Formed (tokens run.text.now run.table.now) }
+    ensures { SetIs run.entry.text.now run.entry.table.now result }
 {
-    let mut set: usize = 0;
-    'sets: while set < 2 {
+    let mut chosen = None;
+    'sets: for set in [Separator::Comma, Separator::AndOr] {
         let mut found: usize = 0;
         let mut i: usize = 0;
-        while i < table.len() {
-            let m = item_end(text, &table[i..], set);
-            found += filled(&table[i..i + m]);
+        while i < run.table.len() {
+            let rest = Run {
+                text: run.text,
+                table: &run.table[i..],
+            };
+            let m = item_end(rest, Some(set));
+            found += usize::from(filled(&run.table[i..i + m]));
             if 1 < found {
+                chosen = Some(set);
                 break 'sets;
             }
             i += m;
         }
-        set += 1;
     }
-    set
+    chosen
 }

@@ -8,7 +8,7 @@ ghost use Rattle.dogwood_rules.specs.File.{laid, add_line, pieces, piece_text, j
 ghost use Rattle.dogwood_rules.proofs.Layouts.{Part};
 ghost use Rattle.dogwood_rules.proofs.Files.{AllParts, AllSane};
 ghost use Rattle.dogwood_layout.specs.Ends.{Whole};
-ghost use Rattle.dogwood_layout.specs.View.{tokens, Ready};
+ghost use Rattle.dogwood_layout.specs.View.{tokens};
 ghost use Rattle.dogwood_layout.specs.Pieces.{settings, Bounded, WroteText};
 ghost use Rattle.dogwood_layout.specs.Places.{entries, before_len, pairs, Paired};
 ghost use Rattle.dogwood_layout.specs.Feeds.{behind, due_lines, lines_due, due_remarks, remarks_due, Due};
@@ -16,7 +16,7 @@ ghost use Rattle.dogwood_layout.specs.Feeds.{behind, due_lines, lines_due, due_r
 use dogwood_groups::lay_out;
 use dogwood_layout::{Page, Written};
 use dogwood_remarks::put_remarks;
-use dogwood_runs::filled;
+use dogwood_runs::{Run, filled};
 use pen::{add, clip, put_copies};
 
 // How many words of a table stand for tokens that start before a place.
@@ -35,40 +35,44 @@ fn until(table: &[u32], place: u32) -> usize
 }
 
 // Writes the LFs that are due and a part's layout, or nothing if it is white space.
-fn lay_part(out: &mut [u8], text: &[u8], table: &[u32], page: Page, feeds: usize) -> Written
-    requires { Ready text.now table.now × Part (tokens text.now table.now) × Bounded page 0 (length table.now) }
-    ensures { Due (due_lines feeds (add_line (layout (settings page) 0 (tokens text.now table.now)) [])) (lines_due feeds (add_line (layout (settings page) 0 (tokens text.now table.now)) [])) out.old result.count result.feeds out.new }
+fn lay_part(out: &mut [u8], run: Run, page: Page, feeds: usize) -> Written
+    requires { Part (tokens run.text.now run.table.now) × Bounded page 0 (length run.table.now) }
+    ensures { Due (due_lines feeds (add_line (layout (settings page) 0 (tokens run.entry.text.now run.entry.table.now)) [])) (lines_due feeds (add_line (layout (settings page) 0 (tokens run.entry.text.now run.entry.table.now)) [])) out.old result.count result.feeds out.new }
 {
-    if filled(table) == 0 {
+    if !filled(run.table) {
         return Written {
             count: 0,
             feeds: feeds,
         };
     }
-    let n = put_copies(out, 10, feeds);
+    let n = put_copies(out, b'\n', feeds);
     let at = clip(n, out.len());
     Written {
-        count: add(n, lay_out(&mut out[at..], text, table, page, 0)),
+        count: add(n, lay_out(&mut out[at..], run, page, 0)),
         feeds: 1,
     }
 }
 
 // Writes a statement: its parts' layouts, each on lines of its own.
-fn lay_statement(out: &mut [u8], text: &[u8], table: &[u32], parts: &[u32], page: Page) -> usize
-    requires { Ready text.now table.now × Paired parts.now × AllParts (parts_of (pairs parts.now) (entries text.now table.now)) × Bounded page 0 (length table.now) }
-    ensures { Wrote out.old (encode (piece_text (settings page) (laid (parts_of (pairs parts.now) (entries text.now table.now))))) result out.new }
+fn lay_statement(out: &mut [u8], run: Run, parts: &[u32], page: Page) -> usize
+    requires { Paired parts.now × AllParts (parts_of (pairs parts.now) (entries run.text.now run.table.now)) × Bounded page 0 (length run.table.now) }
+    ensures { Wrote out.old (encode (piece_text (settings page) (laid (parts_of (pairs parts.now) (entries run.entry.text.now run.entry.table.now))))) result out.new }
 {
     let mut n: usize = 0;
     let mut feeds: usize = 0;
     let mut i: usize = 0;
     let mut j: usize = 0;
     while j < parts.len() {
-        let a = i + until(&table[i..], parts[j]);
-        let b = a + until(&table[a..], parts[j + 1]);
+        let a = i + until(&run.table[i..], parts[j]);
+        let b = a + until(&run.table[a..], parts[j + 1]);
+        let part = Run {
+            text: run.text,
+            table: &run.table[a..b],
+        };
         let at = clip(n, out.len());
-        let part = lay_part(&mut out[at..], text, &table[a..b], page, feeds);
-        n = add(n, part.count);
-        feeds = part.feeds;
+        let laid = lay_part(&mut out[at..], part, page, feeds);
+        n = add(n, laid.count);
+        feeds = laid.feeds;
         i = b;
         j += 2;
     }
@@ -78,41 +82,42 @@ fn lay_statement(out: &mut [u8], text: &[u8], table: &[u32], parts: &[u32], page
 // Writes the comments before a statement, and the statement.
 fn lay_next(
     out: &mut [u8],
-    text: &[u8],
-    before: &[u32],
-    table: &[u32],
+    before: Run,
+    run: Run,
     parts: &[u32],
     page: Page,
     feeds: usize,
 ) -> usize
-    requires { Ready text.now before.now × Ready text.now table.now × Paired parts.now × AllParts (parts_of (pairs parts.now) (entries text.now table.now)) × Bounded page 0 (length table.now) }
-    ensures { Wrote out.old (encode (due_remarks feeds (tokens text.now before.now) ++ behind (remarks_due feeds (tokens text.now before.now)) (piece_text (settings page) (laid (parts_of (pairs parts.now) (entries text.now table.now)))))) result out.new }
+    requires { Paired parts.now × AllParts (parts_of (pairs parts.now) (entries run.text.now run.table.now)) × Bounded page 0 (length run.table.now) }
+    ensures { Wrote out.old (encode (due_remarks feeds (tokens before.entry.text.now before.entry.table.now) ++ behind (remarks_due feeds (tokens before.entry.text.now before.entry.table.now)) (piece_text (settings page) (laid (parts_of (pairs parts.now) (entries run.entry.text.now run.entry.table.now)))))) result out.new }
 {
-    let remarks = put_remarks(out, text, before, feeds);
+    let remarks = put_remarks(out, before, feeds);
     let at = clip(remarks.count, out.len());
-    let a = add(remarks.count, put_copies(&mut out[at..], 10, remarks.feeds));
+    let a = add(remarks.count, put_copies(&mut out[at..], b'\n', remarks.feeds));
     let bt = clip(a, out.len());
-    add(a, lay_statement(&mut out[bt..], text, table, parts, page))
+    add(a, lay_statement(&mut out[bt..], run, parts, page))
 }
 
 // Writes a whole file: its statements, and the comments before, between and behind them.
-pub fn top_level_items(
-    out: &mut [u8],
-    text: &[u8],
-    outline: &[u32],
-    table: &[u32],
-    page: Page,
-) -> usize
-    requires { Ready text.now table.now × ((statements outline.now).1 ≡ []) × AllSane (pieces (statements outline.now).0 (entries text.now table.now)) × Bounded page 0 (length table.now) }
-    ensures { WroteText (join_pieces (settings page) (pieces (statements outline.now).0 (entries text.now table.now))) out.old result out.new }
+pub fn top_level_items(out: &mut [u8], run: Run, outline: &[u32], page: Page) -> usize
+    requires { ((statements outline.now).1 ≡ []) × AllSane (pieces (statements outline.now).0 (entries run.text.now run.table.now)) × Bounded page 0 (length run.table.now) }
+    ensures { WroteText (join_pieces (settings page) (pieces (statements outline.now).0 (entries run.entry.text.now run.entry.table.now))) out.old result out.new }
 {
     let mut n: usize = 0;
     let mut feeds: usize = 0;
     let mut i: usize = 0;
     let mut o: usize = 0;
     while o < outline.len() {
-        let a = i + until(&table[i..], outline[o + 1]);
-        let b = a + until(&table[a..], outline[o + 2]);
+        let a = i + until(&run.table[i..], outline[o + 1]);
+        let b = a + until(&run.table[a..], outline[o + 2]);
+        let before = Run {
+            text: run.text,
+            table: &run.table[i..a],
+        };
+        let own = Run {
+            text: run.text,
+            table: &run.table[a..b],
+        };
         let parts = o + 4;
         let next = parts + 2 * (outline[o + 3] as usize);
         let at = clip(n, out.len());
@@ -120,9 +125,8 @@ pub fn top_level_items(
             n,
             lay_next(
                 &mut out[at..],
-                text,
-                &table[i..a],
-                &table[a..b],
+                before,
+                own,
                 &outline[parts..next],
                 page,
                 feeds,
@@ -132,7 +136,11 @@ pub fn top_level_items(
         i = b;
         o = next;
     }
+    let rest = Run {
+        text: run.text,
+        table: &run.table[i..],
+    };
     let at = clip(n, out.len());
-    let rest = put_remarks(&mut out[at..], text, &table[i..], feeds);
-    add(n, rest.count)
+    let last = put_remarks(&mut out[at..], rest, feeds);
+    add(n, last.count)
 }

@@ -7,7 +7,7 @@ use Rattle.dogwood_layout.proofs.Tables.{held_at, entry_there}
 use Rattle.dogwood_flat.proofs.shown.flat.Goals as goal
 
 pub loop-i-init : goal.loop-i-init
-loop-i-init c = (refl, flat_start _ _ _ c.requires)
+loop-i-init c = (refl, flat_start _ _ _ c.args.run.ready.holds)
 
 pub entry_at-e-requires : goal.entry_at-e-requires
 entry_at-e-requires c = entry_there _ _ _ c.loop-i.invariant.1.holds c.loop-i-test.true

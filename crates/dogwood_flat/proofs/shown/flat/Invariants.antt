@@ -5,7 +5,7 @@ use Rattle.dogwood_layout.proofs.Loops.{FlatAt}
 use Rattle.dogwood_flat.proofs.shown.flat.Given as goal
 
 abbrev pub invariant-loop-i : goal.invariant-loop-i
-invariant-loop-i l = (length l.out ≡ length l.initial.out) × FlatAt l.text l.table l.initial.out l.out l.n l.i
+invariant-loop-i l = (length l.out ≡ length l.initial.out) × FlatAt l.run.text.now l.run.table.now l.initial.out l.out l.n l.i
 
 abbrev pub decreases-loop-i : goal.decreases-loop-i
-decreases-loop-i l = length l.table - l.i
+decreases-loop-i l = length l.run.table.now - l.i

@@ -1,13 +1,13 @@
-use mathlib.Core.Path.{sym, ap}
+use mathlib.Core.Path.{sym, ap, ◌∙◌}
 use Rattle.pen.proofs.Laws.{wrote-same}
 use Rattle.dogwood_rules.specs.Utf8.{encode, bytes_of}
 use Rattle.dogwood_layout.proofs.Tables.{shown-blank, shown-bytes}
 use Rattle.dogwood_flat.proofs.shown.put_token.Goals as goal
 
-pub returns-then-e-eq0 : goal.returns-then-e-eq0
+pub returns-then-e : goal.returns-then-e
 unfolding encode bytes_of
-returns-then-e-eq0 c = wrote-same (sym (ap encode (shown-blank _ _ c.if-e-eq0.true))) c.put.ensures
+returns-then-e c = wrote-same (sym (ap encode (shown-blank _ _ c.if-e.true))) c.put.ensures
 
 pub returns : goal.returns
 returns c =
-    wrote-same (sym (shown-bytes c.requires c.if-e-eq0.false)) c.put_all.ensures
+    wrote-same (c.bytes.ensures ∙ sym (shown-bytes c.requires c.if-e.false)) c.put_all.ensures

@@ -4,18 +4,23 @@ use lib.ListN.{length}
 use Rattle.dogwood_formatter.proofs.Offering.{offered_all, offered_none, mark-fits, given_slice, size_whole, size_small, measured_same, file_written}
 use Rattle.dogwood_formatter.proofs.offer.offer_file.Goals as goal
 
-pub slice_bounds-top_level_items-count-2 : goal.slice_bounds-top_level_items-count-2
-slice_bounds-top_level_items-count-2 c =
+pub slice_bounds-run-count : goal.slice_bounds-run-count
+slice_bounds-run-count c =
     let m = mark-fits c.args.source.now c.split_bom-mark.ensures in
     omega arith
 
-pub slice_bounds-top_level_items-start-2 : goal.slice_bounds-top_level_items-start-2
-slice_bounds-top_level_items-start-2 c =
+pub slice_bounds-run-start : goal.slice_bounds-run-start
+slice_bounds-run-start c =
     let m = mark-fits c.args.source.now c.split_bom-mark.ensures in
     omega arith
+
+pub invariant_of-run : goal.invariant_of-run
+invariant_of-run c = record { ready = (given_slice c.args.source.now c.args.outline.now c.args.table.now c.args.page c.split_bom-mark.ensures c.requires).0 }
 
 pub top_level_items-requires : goal.top_level_items-requires
-top_level_items-requires c = given_slice c.args.source.now c.args.outline.now c.args.table.now c.args.page c.split_bom-mark.ensures c.requires
+top_level_items-requires c =
+    let g = given_slice c.args.source.now c.args.outline.now c.args.table.now c.args.page c.split_bom-mark.ensures c.requires in
+    (g.1, g.2, g.3)
 
 pub overflow_add-size : goal.overflow_add-size
 overflow_add-size c =
@@ -37,18 +42,10 @@ slice_bounds-put_all-end c =
     let m = mark-fits c.args.source.now c.split_bom-mark.ensures in
     omega arith
 
-pub slice_bounds-top_level_items-count-4 : goal.slice_bounds-top_level_items-count-4
-slice_bounds-top_level_items-count-4 c =
-    let m = mark-fits c.args.source.now c.split_bom-mark.ensures in
-    omega arith
-
-pub slice_bounds-top_level_items-start-4 : goal.slice_bounds-top_level_items-start-4
-slice_bounds-top_level_items-start-4 c =
-    let m = mark-fits c.args.source.now c.split_bom-mark.ensures in
-    omega arith
-
 pub top_level_items-requires-2 : goal.top_level_items-requires-2
-top_level_items-requires-2 c = given_slice c.args.source.now c.args.outline.now c.args.table.now c.args.page c.split_bom-mark.ensures c.requires
+top_level_items-requires-2 c =
+    let g = given_slice c.args.source.now c.args.outline.now c.args.table.now c.args.page c.split_bom-mark.ensures c.requires in
+    (g.1, g.2, g.3)
 
 pub overflow_add-result : goal.overflow_add-result
 overflow_add-result c =

@@ -7,7 +7,7 @@ use Rattle.dogwood_layout.proofs.Remarked.{remarks_start, remarks_turn, remarks_
 use Rattle.dogwood_remarks.proofs.remark.put_remarks.Goals as goal
 
 pub loop-i-init : goal.loop-i-init
-loop-i-init c = (refl, remarks_start _ _ _ _ c.requires)
+loop-i-init c = (refl, remarks_start _ _ _ _ c.args.run.ready.holds)
 
 pub entry_at-requires : goal.entry_at-requires
 entry_at-requires c = entry_there _ _ _ c.loop-i.invariant.1.holds c.loop-i-test.true

@@ -4,17 +4,17 @@ use Rattle.dogwood_layout.proofs.Tables.{held_at, entry_there}
 use Rattle.dogwood_runs.proofs.run.group_end.Goals as goal
 
 pub loop-i-init : goal.loop-i-init
-loop-i-init c = group_start _ _ c.requires.holds
+loop-i-init c = group_start _ _ c.args.run.ready.holds
 
 pub entry_at-requires : goal.entry_at-requires
 entry_at-requires c = entry_there _ _ _ c.loop-i.invariant.holds c.loop-i-test.true
 
 pub depth_after-depth-requires : goal.depth_after-depth-requires
 depth_after-depth-requires c =
-    (held_at _ _ _ c.loop-i.invariant.holds c.loop-i-test.true c.entry_at.ensures, (let a = c.loop-i.invariant.fits in let b = c.loop-i.invariant.low in let d = c.requires.short in omega arith))
+    (held_at _ _ _ c.loop-i.invariant.holds c.loop-i-test.true c.entry_at.ensures, (let a = c.loop-i.invariant.fits in let b = c.loop-i.invariant.low in let d = c.args.run.ready.short in omega arith))
 
 pub overflow_add-i : goal.overflow_add-i
-overflow_add-i c = (let a = c.loop-i.invariant.fits in let d = c.requires.short in omega arith)
+overflow_add-i c = (let a = c.loop-i.invariant.fits in let d = c.args.run.ready.short in omega arith)
 
 pub loop-i-smaller : goal.loop-i-smaller
 loop-i-smaller c = (let a = c.loop-i-test.true in omega arith)

@@ -4,7 +4,7 @@ use Rattle.dogwood_layout.proofs.Loops.{GroupAt}
 use Rattle.dogwood_runs.proofs.run.group_end.Given as goal
 
 abbrev pub invariant-loop-i : goal.invariant-loop-i
-invariant-loop-i l = GroupAt l.text l.table l.depth l.i
+invariant-loop-i l = GroupAt l.run.text.now l.run.table.now l.depth l.i
 
 abbrev pub decreases-loop-i : goal.decreases-loop-i
-decreases-loop-i l = length l.table - l.i
+decreases-loop-i l = length l.run.table.now - l.i

@@ -6,7 +6,7 @@ use Rattle.dogwood_layout.proofs.Tables.{held_at, entry_there}
 use Rattle.dogwood_runs.proofs.run.item_end.Goals as goal
 
 pub loop-i-init : goal.loop-i-init
-loop-i-init c = item_start _ _ c.args.set c.requires.holds
+loop-i-init c = item_start _ _ _ c.args.run.ready.holds
 
 pub entry_at-e-requires : goal.entry_at-e-requires
 entry_at-e-requires c = entry_there _ _ _ c.loop-i.invariant.holds c.loop-i-test.true
@@ -24,7 +24,7 @@ cuts_after-requires c = held_at _ _ _ c.loop-i.invariant.holds c.loop-i-test.tru
 pub overflow_add-result : goal.overflow_add-result
 overflow_add-result c =
     let a = c.loop-i.invariant.fits in
-    let d = c.requires.short in
+    let d = c.args.run.ready.short in
     omega arith
 
 pub returns-then-cuts_after : goal.returns-then-cuts_after
@@ -33,12 +33,12 @@ returns-then-cuts_after c =
 
 pub depth_after-depth-requires : goal.depth_after-depth-requires
 depth_after-depth-requires c =
-    (held_at _ _ _ c.loop-i.invariant.holds c.loop-i-test.true c.entry_at-e.ensures, (let a = c.loop-i.invariant.fits in let b = c.loop-i.invariant.low in let d = c.requires.short in omega arith))
+    (held_at _ _ _ c.loop-i.invariant.holds c.loop-i-test.true c.entry_at-e.ensures, (let a = c.loop-i.invariant.fits in let b = c.loop-i.invariant.low in let d = c.args.run.ready.short in omega arith))
 
 pub overflow_add-i : goal.overflow_add-i
 overflow_add-i c =
     let a = c.loop-i.invariant.fits in
-    let d = c.requires.short in
+    let d = c.args.run.ready.short in
     omega arith
 
 pub loop-i-smaller : goal.loop-i-smaller

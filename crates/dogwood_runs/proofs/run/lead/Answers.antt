@@ -21,5 +21,5 @@ loop-i-preserved c = lead_turn _ _ c.loop-i.invariant c.loop-i-test.true (omega 
 pub returns-after-loop-i : goal.returns-after-loop-i
 returns-after-loop-i c = lead_end _ _ c.loop-i.invariant (omega (arith, c.loop-i-test.false))
 
-pub returns-then-table-i-ne0 : goal.returns-then-table-i-ne0
-returns-then-table-i-ne0 c = lead_stop _ _ c.loop-i.invariant c.loop-i-test.true c.if-table-i-ne0.true
+pub returns-then-table-i : goal.returns-then-table-i
+returns-then-table-i c = lead_stop _ _ c.loop-i.invariant c.loop-i-test.true c.if-table-i.true

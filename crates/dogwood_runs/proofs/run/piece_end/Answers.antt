@@ -4,18 +4,15 @@ use Rattle.dogwood_layout.proofs.Tables.{held_at, entry_there}
 use Rattle.dogwood_runs.proofs.run.piece_end.Goals as goal
 
 pub entry_at-requires : goal.entry_at-requires
-entry_at-requires c = entry_there _ _ 0 c.requires.0.holds c.requires.1
+entry_at-requires c = entry_there _ _ 0 c.args.run.ready.holds c.requires
 
 pub opens-requires : goal.opens-requires
-opens-requires c = held_at _ _ 0 c.requires.0.holds c.requires.1 c.entry_at.ensures
-
-pub group_end-requires : goal.group_end-requires
-group_end-requires c = c.requires.0
+opens-requires c = held_at _ _ 0 c.args.run.ready.holds c.requires c.entry_at.ensures
 
 pub returns-then-opens : goal.returns-then-opens
 returns-then-opens c =
-    c.group_end.ensures ∙ piece-group _ _ c.requires.1 c.requires.0.holds c.entry_at.ensures (sym c.opens.ensures ∙ c.if-opens.true)
+    c.group_end.ensures ∙ piece-group _ _ c.requires c.args.run.ready.holds c.entry_at.ensures (sym c.opens.ensures ∙ c.if-opens.true)
 
 pub returns : goal.returns
 returns c =
-    piece_one _ _ c.requires.1 c.requires.0.holds c.entry_at.ensures (sym c.opens.ensures ∙ c.if-opens.false)
+    piece_one _ _ c.requires c.args.run.ready.holds c.entry_at.ensures (sym c.opens.ensures ∙ c.if-opens.false)

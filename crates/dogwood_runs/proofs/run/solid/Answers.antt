@@ -27,5 +27,5 @@ loop-n-preserved c = back_turn _ _ c.loop-n.invariant c.loop-n-test.true (omega 
 pub returns-after-loop-n : goal.returns-after-loop-n
 returns-after-loop-n c = back_none _ _ c.loop-n.invariant (omega (arith, c.loop-n-test.false))
 
-pub returns-then-table-n-ne0 : goal.returns-then-table-n-ne0
-returns-then-table-n-ne0 c = back_stop _ _ c.loop-n.invariant c.loop-n-test.true c.if-table-n-ne0.true
+pub returns-then-table-n : goal.returns-then-table-n
+returns-then-table-n c = back_stop _ _ c.loop-n.invariant c.loop-n-test.true c.if-table-n.true

@@ -1,20 +1,40 @@
-use mathlib.Core.Path.{◌≡◌, sym, ◌∙◌}
-use Prim.Native.Nat.{◌-◌}
-use native.Mathlib.Omega.{arith}
-use Rattle.dogwood_layout.proofs.Loops.{depth_open, depth_close, depth_same}
+use Rattle.std.proofs.Common.{arith}
+use Rattle.std.proofs.lemmas.Bool.Decides.{nat_tests}
+use Rattle.dogwood_layout.specs.Scan.{depth_after}
+use Rattle.dogwood_layout.proofs.Tables.{opener_at, closer_at}
 use Rattle.dogwood_runs.proofs.table.depth_after.Goals as goal
 
-pub returns-then-opens : goal.returns-then-opens
-returns-then-opens c = depth_open _ _ (sym c.opens.ensures ∙ c.if-opens.true)
+pub returns-in-40 : goal.returns-in-40
+unfolding depth_after
+returns-in-40 c =
+    let o = opener_at c.requires.0 c.bytes.ensures in
+    let k = closer_at c.requires.0 c.bytes.ensures in
+    grind (arith, nat_tests)
 
-pub returns-then-depth-eq0 : goal.returns-then-depth-eq0
-returns-then-depth-eq0 c =
-    let z : c.args.depth ≡ 0 = c.if-depth-eq0.true in
-    (let y : 0 ≡ c.args.depth - 1 = omega arith in y) ∙ depth_close _ _ (sym c.opens.ensures ∙ c.if-opens.false) (sym c.closes.ensures ∙ c.if-closes.true)
+pub returns-in-41 : goal.returns-in-41
+unfolding depth_after
+returns-in-41 c =
+    let o = opener_at c.requires.0 c.bytes.ensures in
+    let k = closer_at c.requires.0 c.bytes.ensures in
+    grind (arith, nat_tests)
 
-pub returns-then-closes : goal.returns-then-closes
-returns-then-closes c =
-    depth_close _ _ (sym c.opens.ensures ∙ c.if-opens.false) (sym c.closes.ensures ∙ c.if-closes.true)
+pub returns-in_default : goal.returns-in_default
+unfolding depth_after
+returns-in_default c =
+    let o = opener_at c.requires.0 c.bytes.ensures in
+    let k = closer_at c.requires.0 c.bytes.ensures in
+    grind (arith, nat_tests)
 
-pub returns : goal.returns
-returns c = depth_same _ _ (sym c.opens.ensures ∙ c.if-opens.false) (sym c.closes.ensures ∙ c.if-closes.false)
+pub returns-in_default-2 : goal.returns-in_default-2
+unfolding depth_after
+returns-in_default-2 c =
+    let o = opener_at c.requires.0 c.bytes.ensures in
+    let k = closer_at c.requires.0 c.bytes.ensures in
+    grind (arith, nat_tests)
+
+pub returns-in_default-3 : goal.returns-in_default-3
+unfolding depth_after
+returns-in_default-3 c =
+    let o = opener_at c.requires.0 c.bytes.ensures in
+    let k = closer_at c.requires.0 c.bytes.ensures in
+    grind (arith, nat_tests)

@@ -8,44 +8,23 @@ use Rattle.dogwood_layout.specs.Pieces.{settings}
 use Rattle.dogwood_statements.proofs.file.lay_statement.Goals as goal
 
 pub loop-j-init : goal.loop-j-init
-loop-j-init c = (refl, parts_start _ _ _ _ _ c.requires.0.holds c.requires.1 c.requires.2)
-
-pub offset_bounds-table-i : goal.offset_bounds-table-i
-offset_bounds-table-i c =
-    let f = c.loop-j.invariant.1.fits in
-    let g = c.well_formed in
-    search rules
-
-pub slice_bounds-until-count : goal.slice_bounds-until-count
-slice_bounds-until-count c =
-    let f = c.loop-j.invariant.1.fits in
-    omega arith
-
-pub slice_bounds-until-start : goal.slice_bounds-until-start
-slice_bounds-until-start c =
-    let f = c.loop-j.invariant.1.fits in
-    omega arith
-
-pub slice_bounds-until-end : goal.slice_bounds-until-end
-slice_bounds-until-end c =
-    let f = c.loop-j.invariant.1.fits in
-    omega arith
+loop-j-init c = (refl, parts_start _ _ _ _ _ c.args.run.ready.holds c.requires.0 c.requires.1)
 
 pub until-requires : goal.until-requires
-until-requires c = rest_whole c.args.text.now c.args.table.now c.loop-j.i c.loop-j.invariant.1.holds
+until-requires c = rest_whole c.args.run.text.now c.args.run.table.now c.loop-j.i c.loop-j.invariant.1.holds
 
 pub overflow_add-a : goal.overflow_add-a
 overflow_add-a c =
     let a = c.loop-j.invariant.1 in
-    let u = cut_here c.args.text.now c.args.table.now c.loop-j.i _ _ a.holds a.fits c.until.ensures in
+    let u = cut_here c.args.run.text.now c.args.run.table.now c.loop-j.i _ _ a.holds a.fits c.until.ensures in
     let f = u.fits in
     let g = c.well_formed in
     omega arith
 
-pub offset_bounds-table-a : goal.offset_bounds-table-a
-offset_bounds-table-a c =
+pub offset_bounds-run-a : goal.offset_bounds-run-a
+offset_bounds-run-a c =
     let a = c.loop-j.invariant.1 in
-    let u = cut_here c.args.text.now c.args.table.now c.loop-j.i _ _ a.holds a.fits c.until.ensures in
+    let u = cut_here c.args.run.text.now c.args.run.table.now c.loop-j.i _ _ a.holds a.fits c.until.ensures in
     let f = u.fits in
     let g = c.well_formed in
     search rules
@@ -53,117 +32,72 @@ offset_bounds-table-a c =
 pub slice_bounds-until-count-in-loop-j : goal.slice_bounds-until-count-in-loop-j
 slice_bounds-until-count-in-loop-j c =
     let a = c.loop-j.invariant.1 in
-    let u = cut_here c.args.text.now c.args.table.now c.loop-j.i _ _ a.holds a.fits c.until.ensures in
+    let u = cut_here c.args.run.text.now c.args.run.table.now c.loop-j.i _ _ a.holds a.fits c.until.ensures in
     let f = u.fits in
     omega arith
 
 pub slice_bounds-until-start-in-loop-j : goal.slice_bounds-until-start-in-loop-j
 slice_bounds-until-start-in-loop-j c =
     let a = c.loop-j.invariant.1 in
-    let u = cut_here c.args.text.now c.args.table.now c.loop-j.i _ _ a.holds a.fits c.until.ensures in
+    let u = cut_here c.args.run.text.now c.args.run.table.now c.loop-j.i _ _ a.holds a.fits c.until.ensures in
     let f = u.fits in
     omega arith
-
-pub slice_bounds-until-end-in-loop-j : goal.slice_bounds-until-end-in-loop-j
-slice_bounds-until-end-in-loop-j c =
-    let a = c.loop-j.invariant.1 in
-    let u = cut_here c.args.text.now c.args.table.now c.loop-j.i _ _ a.holds a.fits c.until.ensures in
-    let f = u.fits in
-    omega arith
-
-pub overflow_add-j : goal.overflow_add-j
-overflow_add-j c =
-    let t = pair_there _ _ c.loop-j.invariant.1.paired c.loop-j-test.true in
-    let g = c.well_formed in
-    search rules
-
-pub offset_bounds-parts-j-in-loop-j : goal.offset_bounds-parts-j-in-loop-j
-offset_bounds-parts-j-in-loop-j c =
-    let t = pair_there _ _ c.loop-j.invariant.1.paired c.loop-j-test.true in
-    let g = c.well_formed in
-    search rules
-
-pub bounds-parts-j-in-loop-j : goal.bounds-parts-j-in-loop-j
-bounds-parts-j-in-loop-j c =
-    let t = pair_there _ _ c.loop-j.invariant.1.paired c.loop-j-test.true in
-    search rules
 
 pub until-requires-in-loop-j : goal.until-requires-in-loop-j
 until-requires-in-loop-j c =
     let a = c.loop-j.invariant.1 in
-    let u = cut_here c.args.text.now c.args.table.now c.loop-j.i _ _ a.holds a.fits c.until.ensures in
-    rest_whole c.args.text.now c.args.table.now (c.loop-j.i + c.until.result) u.holds
+    let u = cut_here c.args.run.text.now c.args.run.table.now c.loop-j.i _ _ a.holds a.fits c.until.ensures in
+    rest_whole c.args.run.text.now c.args.run.table.now (c.loop-j.i + c.until.result) u.holds
 
 pub overflow_add-b : goal.overflow_add-b
 overflow_add-b c =
     let a = c.loop-j.invariant.1 in
-    let u = cut_here c.args.text.now c.args.table.now c.loop-j.i _ _ a.holds a.fits c.until.ensures in
-    let v = cut_here c.args.text.now c.args.table.now (c.loop-j.i + c.until.result) _ _ u.holds u.fits c.until-in-loop-j.ensures in
+    let u = cut_here c.args.run.text.now c.args.run.table.now c.loop-j.i _ _ a.holds a.fits c.until.ensures in
+    let v = cut_here c.args.run.text.now c.args.run.table.now (c.loop-j.i + c.until.result) _ _ u.holds u.fits c.until-in-loop-j.ensures in
     let f = v.fits in
     let g = c.well_formed in
     omega arith
 
-pub offset_bounds-table-a-in-loop-j : goal.offset_bounds-table-a-in-loop-j
-offset_bounds-table-a-in-loop-j c =
+pub offset_bounds-run-a-in-loop-j : goal.offset_bounds-run-a-in-loop-j
+offset_bounds-run-a-in-loop-j c =
     let a = c.loop-j.invariant.1 in
-    let u = cut_here c.args.text.now c.args.table.now c.loop-j.i _ _ a.holds a.fits c.until.ensures in
-    let v = cut_here c.args.text.now c.args.table.now (c.loop-j.i + c.until.result) _ _ u.holds u.fits c.until-in-loop-j.ensures in
+    let u = cut_here c.args.run.text.now c.args.run.table.now c.loop-j.i _ _ a.holds a.fits c.until.ensures in
+    let v = cut_here c.args.run.text.now c.args.run.table.now (c.loop-j.i + c.until.result) _ _ u.holds u.fits c.until-in-loop-j.ensures in
     let f = v.fits in
     let g = c.well_formed in
     search rules
 
-pub slice_bounds-lay_part-count-in-loop-j : goal.slice_bounds-lay_part-count-in-loop-j
-slice_bounds-lay_part-count-in-loop-j c =
+pub slice_bounds-part-end : goal.slice_bounds-part-end
+slice_bounds-part-end c =
     let a = c.loop-j.invariant.1 in
-    let u = cut_here c.args.text.now c.args.table.now c.loop-j.i _ _ a.holds a.fits c.until.ensures in
-    let v = cut_here c.args.text.now c.args.table.now (c.loop-j.i + c.until.result) _ _ u.holds u.fits c.until-in-loop-j.ensures in
+    let u = cut_here c.args.run.text.now c.args.run.table.now c.loop-j.i _ _ a.holds a.fits c.until.ensures in
+    let v = cut_here c.args.run.text.now c.args.run.table.now (c.loop-j.i + c.until.result) _ _ u.holds u.fits c.until-in-loop-j.ensures in
     let f = v.fits in
     omega arith
 
-pub slice_bounds-lay_part-start-in-loop-j : goal.slice_bounds-lay_part-start-in-loop-j
-slice_bounds-lay_part-start-in-loop-j c =
+pub invariant_of-part : goal.invariant_of-part
+invariant_of-part c =
     let a = c.loop-j.invariant.1 in
-    let u = cut_here c.args.text.now c.args.table.now c.loop-j.i _ _ a.holds a.fits c.until.ensures in
-    let v = cut_here c.args.text.now c.args.table.now (c.loop-j.i + c.until.result) _ _ u.holds u.fits c.until-in-loop-j.ensures in
-    let f = v.fits in
-    omega arith
+    let u = cut_here c.args.run.text.now c.args.run.table.now c.loop-j.i _ _ a.holds a.fits c.until.ensures in
+    let v = cut_here c.args.run.text.now c.args.run.table.now (c.loop-j.i + c.until.result) _ _ u.holds u.fits c.until-in-loop-j.ensures in
+    record { ready = part_ready (settings c.args.page) _ _ _ a c.loop-j-test.true u v c.args.run.ready }
 
-pub slice_bounds-lay_part-end-in-loop-j : goal.slice_bounds-lay_part-end-in-loop-j
-slice_bounds-lay_part-end-in-loop-j c =
+pub lay_part-laid-requires : goal.lay_part-laid-requires
+lay_part-laid-requires c =
     let a = c.loop-j.invariant.1 in
-    let u = cut_here c.args.text.now c.args.table.now c.loop-j.i _ _ a.holds a.fits c.until.ensures in
-    let v = cut_here c.args.text.now c.args.table.now (c.loop-j.i + c.until.result) _ _ u.holds u.fits c.until-in-loop-j.ensures in
-    let f = v.fits in
-    omega arith
-
-pub lay_part-part-requires : goal.lay_part-part-requires
-lay_part-part-requires c =
-    let a = c.loop-j.invariant.1 in
-    let u = cut_here c.args.text.now c.args.table.now c.loop-j.i _ _ a.holds a.fits c.until.ensures in
-    let v = cut_here c.args.text.now c.args.table.now (c.loop-j.i + c.until.result) _ _ u.holds u.fits c.until-in-loop-j.ensures in
+    let u = cut_here c.args.run.text.now c.args.run.table.now c.loop-j.i _ _ a.holds a.fits c.until.ensures in
+    let v = cut_here c.args.run.text.now c.args.run.table.now (c.loop-j.i + c.until.result) _ _ u.holds u.fits c.until-in-loop-j.ensures in
     let h = c.loop-j-test.true in (
-      part_ready (settings c.args.page) _ _ _ a h u v c.requires.0,
       part_here (settings c.args.page) _ _ _ a h u v,
-      part_bounded (settings c.args.page) _ _ _ a h u v c.requires.3,
+      part_bounded (settings c.args.page) _ _ _ a h u v c.requires.2,
     )
-
-pub overflow_add-j-in-loop-j : goal.overflow_add-j-in-loop-j
-overflow_add-j-in-loop-j c =
-    let t = pair_there _ _ c.loop-j.invariant.1.paired c.loop-j-test.true in
-    let g = c.well_formed in
-    omega arith
-
-pub loop-j-smaller : goal.loop-j-smaller
-loop-j-smaller c =
-    let t = c.loop-j-test.true in
-    omega arith
 
 pub loop-j-preserved : goal.loop-j-preserved
 loop-j-preserved c =
     let a = c.loop-j.invariant.1 in
-    let u = cut_here c.args.text.now c.args.table.now c.loop-j.i _ _ a.holds a.fits c.until.ensures in
-    let v = cut_here c.args.text.now c.args.table.now (c.loop-j.i + c.until.result) _ _ u.holds u.fits c.until-in-loop-j.ensures in
-    let g = parts_turn (settings c.args.page) _ _ _ a c.loop-j-test.true u v c.clip-at.ensures.place (omega (arith, c.loop-j.invariant.0, c.well_formed)) c.lay_part-part.ensures c.add-n.ensures.sum in
+    let u = cut_here c.args.run.text.now c.args.run.table.now c.loop-j.i _ _ a.holds a.fits c.until.ensures in
+    let v = cut_here c.args.run.text.now c.args.run.table.now (c.loop-j.i + c.until.result) _ _ u.holds u.fits c.until-in-loop-j.ensures in
+    let g = parts_turn (settings c.args.page) _ _ _ a c.loop-j-test.true u v c.clip-at.ensures.place (omega (arith, c.loop-j.invariant.0, c.well_formed)) c.lay_part-laid.ensures c.add-n.ensures.sum in
     (wrote-length g.wrote, g)
 
 pub returns : goal.returns

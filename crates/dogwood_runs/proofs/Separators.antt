@@ -1,0 +1,29 @@
+-- A separator set is told by its number.
+use mathlib.Core.Path.{◌≡◌, refl}
+use mathlib.Core.List.{[], ◌∷◌}
+use Prim.Native.Nat.{ℕ, zero, suc, ◌<◌}
+use native.Mathlib.Omega.{arith}
+use lib.Dec.{eqb}
+use lib.ListN.{get_or}
+use Rattle.std.specs.Prelude.{Option, Some, None}
+use Rattle.std.specs.Option.{option_eq}
+use Rattle.dogwood_runs.specs.declared.parts.Separator.{Separator}
+use Rattle.dogwood_runs.specs.declared.parts.Separator.TheVariants.{Comma, AndOr}
+use Rattle.dogwood_runs.specs.contracts.parts.SeparatorPartialEq.TheImpl.{eq-value}
+use Rattle.dogwood_runs.specs.Separators.{set_number}
+
+pub is-comma_set : (s : Option Separator) → option_eq eq-value.it s (Some Comma) ≡ eqb (set_number s) 0
+is-comma_set None = refl
+is-comma_set (Some Comma) = refl
+is-comma_set (Some AndOr) = refl
+
+pub is-and-or_set : (s : Option Separator) → option_eq eq-value.it s (Some AndOr) ≡ eqb (set_number s) 1
+is-and-or_set None = refl
+is-and-or_set (Some Comma) = refl
+is-and-or_set (Some AndOr) = refl
+
+-- the sets stand in the order of their numbers
+pub set_at : (i : ℕ) → i < 2 → set_number (Some (get_or (Comma ∷ AndOr ∷ []) i Comma)) ≡ i
+set_at zero h = refl
+set_at (suc zero) h = refl
+set_at (suc (suc i)) h = absurd (omega arith)

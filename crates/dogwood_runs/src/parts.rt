@@ -1,0 +1,19 @@
+// A run, and what cuts its inside into items.
+ghost use Rattle.dogwood_layout.specs.View.{Ready};
+ghost use Rattle.dogwood_layout.specs.Facts.{Ready-prop};
+
+// A text and a part of its token table: each entry is whole, the text holds it, and no count goes over.
+#[derive(Clone, Copy)]
+pub struct Run<'a> {
+    pub text: &'a [u8],
+    pub table: &'a [u32],
+    ghost ready: { Ready text.now table.now } by { Ready-prop text.now table.now },
+}
+
+// What cuts an inside into items: commas, or && and ||.
+#[derive(Clone, Copy, PartialEq, Eq)]
+pub enum Separator {
+    Comma,
+    AndOr,
+}
+
