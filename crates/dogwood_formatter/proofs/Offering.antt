@@ -1,13 +1,12 @@
 -- What is offered to an output: written whole, or not at all.
 use Rattle.std.specs.Prelude.{if◌then◌else◌}
-use mathlib.Core.Path.{◌≡◌, refl, sym, ◌∙◌, ap, subst}
-use mathlib.Core.Bool.{Bool, true, false, ◌&&◌}
+use mathlib.Core.Path.{◌≡◌, sym, ◌∙◌, ap, subst}
+use mathlib.Core.Bool.{Bool, true, false}
 use mathlib.Core.List.{List, [], ◌∷◌, ◌++◌}
 use Prim.Native.Nat.{ℕ, ◌+◌, ◌-◌, ◌<◌, ◌≤◌}
 use native.Mathlib.Omega.{arith}
-use lib.Dec.{eqb}
 use lib.ListN.{length, take, drop, length-append}
-use borrow.Author.Tests.{le-leb, lt-leb, eqb-true}
+use borrow.Author.Tests.{le-leb, lt-leb}
 use borrow.Rule.Slice.PartMut.{put_mid}
 use Rattle.pen.specs.Over.{cap, Wrote, over as written_over}
 use Rattle.pen.proofs.Laws.{over-fits, over-part, length_over}
@@ -15,9 +14,7 @@ use Rattle.dogwood_rules.specs.Utf8.{encode, marked, mark_of, text_of}
 use Rattle.dogwood_rules.specs.Outline.{statements}
 use Rattle.dogwood_rules.specs.File.{pieces, join_pieces}
 use Rattle.dogwood_rules.specs.Promises.{over}
-use Rattle.dogwood_rules.proofs.Below.{and_true}
 use Rattle.dogwood_rules.proofs.Files.{AllSane}
-use Rattle.utf8.proofs.Mark.{mark_inside, text_of_lem}
 use Rattle.dogwood_layout.specs.declared.Page.{Page}
 use Rattle.dogwood_layout.specs.View.{Ready}
 use Rattle.dogwood_layout.specs.Pieces.{settings, Bounded, WroteText}
@@ -37,70 +34,49 @@ offered_all bytes old e h w =
 pub offered_none : (bytes old : List ℕ) {r : ℕ} {new : List ℕ} → r ≡ length bytes → length old < length bytes → new ≡ old → Offered bytes old r new
 offered_none bytes old e h w = record { count = e; written = w ∙ ap (λ (b : Bool). if b then over bytes old else old) (sym (lt-leb (length bytes) (length old) h)) }
 
--- The mark ---------------------------------------------------------------------------------------------------------------
-
-abbrev bom : List ℕ
-bom = 0xef ∷ 0xbb ∷ 0xbf ∷ []
-
-mark_front : (source : List ℕ) → take (length (mark_of source)) source ≡ mark_of source
-unfolding mark_of marked
-mark_front [] = refl
-mark_front (a ∷ []) = refl
-mark_front (a ∷ b ∷ []) = refl
-mark_front (a ∷ b ∷ c ∷ bs) = go ((eqb a 0xef && eqb b 0xbb) && eqb c 0xbf) refl
+mark_short : (source : List ℕ) → length (mark_of source) ≤ 3
+unfolding mark_of
+mark_short source = by (marked source)
   where
-    go : (t : Bool) → ((eqb a 0xef && eqb b 0xbb) && eqb c 0xbf) ≡ t → take (length (if t then bom else [])) (a ∷ b ∷ c ∷ bs) ≡ (if t then bom else [])
-    go true e =
-        let p = and_true (eqb a 0xef && eqb b 0xbb) (eqb c 0xbf) e in
-        let q = and_true (eqb a 0xef) (eqb b 0xbb) p.0 in
-        λ j. eqb-true a 0xef q.0 j ∷ eqb-true b 0xbb q.1 j ∷ eqb-true c 0xbf p.1 j ∷ []
-    go false e = refl
-
-pub mark-fits : (source : List ℕ) {mark : ℕ} → mark ≡ length (mark_of source) → mark ≤ length source
-mark-fits source e = let f = mark_inside source in omega arith
+    by : (t : Bool) → length {A = ℕ} (if t then 0xef ∷ 0xbb ∷ 0xbf ∷ [] else []) ≤ 3
+    by true = omega arith
+    by false = omega arith
 
 -- The mark and the layout ------------------------------------------------------------------------------------------------
 
-module _ (source outline ws : List ℕ) (p : Page) {mark : ℕ} (e : mark ≡ length (mark_of source)) where
-  abbrev slice : List ℕ
-  slice = take (length source - mark) (drop mark source)
-
+module _ (source outline ws : List ℕ) (p : Page) {mark text : List ℕ} (e : mark ≡ mark_of source) (f : text ≡ text_of source) where
   abbrev laid_text : List ℕ → List ℕ
-  laid_text text = join_pieces (settings p) (pieces (statements outline).0 (entries text ws))
-
-  slice_text : slice ≡ text_of source
-  slice_text = text_of_lem source mark e
+  laid_text cs = join_pieces (settings p) (pieces (statements outline).0 (entries cs ws))
 
   abbrev Given : List ℕ → Type 0
-  Given text = Ready text ws × ((statements outline).1 ≡ []) × AllSane (pieces (statements outline).0 (entries text ws)) × Bounded p 0 (length ws)
+  Given cs = Ready cs ws × ((statements outline).1 ≡ []) × AllSane (pieces (statements outline).0 (entries cs ws)) × Bounded p 0 (length ws)
 
-  pub given_slice : Given (text_of source) → Given slice
-  given_slice g = subst Given (sym slice_text) g
+  pub given_text : Given (text_of source) → Given text
+  given_text g = subst Given (sym f) g
 
   abbrev whole : List ℕ
   whole = mark_of source ++ encode (laid_text (text_of source))
 
-  module _ {old : List ℕ} {r : ℕ} {new : List ℕ} (w : WroteText (laid_text slice) old r new) where
-    pub size_whole : mark + r ≡ length whole
+  pub mark_few : length mark ≤ 3
+  mark_few = let l = ap length e in let h = mark_short source in omega arith
+
+  module _ {old : List ℕ} {r : ℕ} {new : List ℕ} (w : WroteText (laid_text text) old r new) where
+    pub size_whole : length mark + r ≡ length whole
     size_whole =
-        let c : r ≡ length (encode (laid_text (text_of source))) = w.count ∙ ap (λ (text : List ℕ). length (encode (laid_text text))) slice_text in
+        let c : r ≡ length (encode (laid_text (text_of source))) = w.count ∙ ap (λ (cs : List ℕ). length (encode (laid_text cs))) f in
+        let m = ap length e in
         let l = length-append (mark_of source) (encode (laid_text (text_of source))) in
         omega arith
 
     pub size_small : Given (text_of source) → r ≤ cap
-    size_small g = let c = w.count in let b = file_bound p slice ws outline (given_slice g).0 (given_slice g).3 (given_slice g).2 in omega arith
+    size_small g = let c = w.count in let b = file_bound p text ws outline (given_text g).0 (given_text g).3 (given_text g).2 in omega arith
 
-  -- measuring writes nothing
-  pub measured_same : {old : List ℕ} {r : ℕ} {new : List ℕ} → WroteText (laid_text slice) (take 0 (drop 0 old)) r new → put_mid 0 0 old new ≡ old
-  unfolding written_over
-  measured_same {old} w = ap (λ (l : List ℕ). l ++ old) w.bytes
-
-  pub file_written : {old xs ys new : List ℕ} {n r : ℕ} → xs ≡ old → length whole ≤ length old → Wrote xs (take (mark - 0) (drop 0 source)) n ys → WroteText (laid_text slice) (take (length ys - mark) (drop mark ys)) r new
-      → put_mid mark (length ys - mark) ys new ≡ written_over old whole
-  file_written {old} {xs} {ys} {new} q h a b =
-      let size : mark - 0 ≡ length (mark_of source) = omega arith in
-      let front : ys ≡ written_over old (mark_of source) = a.bytes ∙ (λ j. written_over (q j) ((ap (λ (n : ℕ). take n source) size ∙ mark_front source) j)) in
+  pub file_written : {old ys new : List ℕ} {n r : ℕ} → length whole ≤ length old → Wrote old mark n ys → WroteText (laid_text text) (take (length ys - length mark) (drop (length mark) ys)) r new
+      → put_mid (length mark) (length ys - length mark) ys new ≡ written_over old whole
+  file_written {old} {ys} {new} h a b =
+      let m = ap length e in
+      let front : ys ≡ written_over old (mark_of source) = a.bytes ∙ ap (written_over old) e in
       let l = ap length front ∙ length_over old (mark_of source) in
       let t = length-append (mark_of source) (encode (laid_text (text_of source))) in
-      over-part old ys new (mark_of source) (encode (laid_text (text_of source))) mark front (omega arith)
-      (b.bytes ∙ ap (λ (text : List ℕ). written_over (take (length ys - mark) (drop mark ys)) (encode (laid_text text))) slice_text)
+      over-part old ys new (mark_of source) (encode (laid_text (text_of source))) (length mark) front (omega arith)
+      (b.bytes ∙ ap (λ (cs : List ℕ). written_over (take (length ys - length mark) (drop (length mark) ys)) (encode (laid_text cs))) f)

@@ -36,15 +36,12 @@ pub(crate) fn offer_file(
     requires { Ready (text_of source.now) table.now × ((statements outline.now).1 ≡ []) × AllSane (pieces (statements outline.now).0 (entries (text_of source.now) table.now)) × Bounded page 0 (length table.now) }
     ensures { Offered (mark_of source.now ++ encode (join_pieces (settings page) (pieces (statements outline.now).0 (entries (text_of source.now) table.now)))) out.old result out.new }
 {
-    let mark = split_bom(source);
-    let run = Run {
-        text: &source[mark..],
-        table: table,
-    };
-    let size = mark + top_level_items(&mut out[0..0], run, outline, page);
+    let (mark, text) = split_bom(source);
+    let run = Run { text, table };
+    let size = mark.len() + top_level_items(&mut [], run, outline, page);
     if out.len() < size {
         return size;
     }
-    put_all(out, &source[0..mark]);
-    mark + top_level_items(&mut out[mark..], run, outline, page)
+    put_all(out, mark);
+    mark.len() + top_level_items(&mut out[mark.len()..], run, outline, page)
 }
