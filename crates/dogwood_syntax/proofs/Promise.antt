@@ -24,7 +24,7 @@ use Rattle.dogwood_tokens.specs.Cursor.{tokens_at}
 use Rattle.dogwood_syntax.specs.Numbers.{number, value}
 use Rattle.dogwood_syntax.proofs.Filling.{answer_open, answer_small, answer_done, table_of}
 use Rattle.dogwood_tokens.proofs.Seam.{open_seam, placed_seam}
-use Rattle.std.specs.Prelude.{None, Some, Result, Ok, Err}
+use Rattle.std.specs.Prelude.{None, Option, Some, Result, Ok, Err}
 
 -- an answer of the rules, held against what was answered
 keeps : (s t : List ℕ) (a : Alone) (n v : ℕ) (t' : List ℕ) → tokenised s (length t) ≡ a → n ≡ a.number → v ≡ a.value → t' ≡ over a.table t → Tokenises s t n v t'
@@ -33,6 +33,10 @@ keeps s t a n v t' e p q r = record {
   valued = q ∙ ap (λ (x : Alone). x.value) (sym e);
   tabled = r ∙ ap (λ (x : Alone). over x.table t) (sym e);
 }
+
+-- what was found in the text that was set apart is so of the source's text
+pub found : (src text : List ℕ) (r : Option ℕ) → text ≡ text_of src → r ≡ left_at (length text) (decode text).1 → left_at (length (text_of src)) (decode (text_of src)).1 ≡ r
+found src text r e q = ap (λ (l : List ℕ). left_at (length l) (decode l).1) (sym e) ∙ sym q
 
 -- the place of what is left lies within the text
 pub left_inside : (l : ℕ) (bs : List ℕ) (i : ℕ) → left_at l bs ≡ Some i → i ≤ l

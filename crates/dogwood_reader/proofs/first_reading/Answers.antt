@@ -1,21 +1,15 @@
 use Prim.Native.Nat.{ℕ, ◌+◌}
-use mathlib.Core.Path.{◌≡◌, sym, ap, ◌∙◌}
+use mathlib.Core.Path.{sym, ap, ◌∙◌}
 use mathlib.Core.List.{List}
 use native.Mathlib.Omega.{arith}
 use lib.ListN.{length}
-use Rattle.std.specs.Prelude.{Option}
 use Rattle.dogwood_rules.specs.Utf8.{decode, text_of}
-use Rattle.utf8.specs.Told.{left_at}
 use Rattle.utf8.proofs.Mark.{mark_inside, length_text}
-use Rattle.dogwood_syntax.proofs.Promise.{left_inside}
+use Rattle.dogwood_syntax.proofs.Promise.{left_inside, found}
 use Rattle.dogwood_reader.specs.declared.Reading.TheVariants.{Refused}
 use Rattle.dogwood_reader.specs.declared.Refusal.TheVariants.{NotUtf8}
 use Rattle.dogwood_reader.proofs.Places.{long_start, bad_start, good_start}
 use Rattle.dogwood_reader.proofs.first_reading.Goals as goal
-
--- what was found in the text
-found : (src text : List ℕ) (r : Option ℕ) → text ≡ text_of src → r ≡ left_at (length text) (decode text).1 → left_at (length (text_of src)) (decode (text_of src)).1 ≡ r
-found src text r e q = ap (λ (l : List ℕ). left_at (length l) (decode l).1) (sym e) ∙ sym q
 
 pub returns-then-src-gt-LONGEST : goal.returns-then-src-gt-LONGEST
 returns-then-src-gt-LONGEST c = sym (long_start c.args.src.now c.if-src-gt-LONGEST.true)

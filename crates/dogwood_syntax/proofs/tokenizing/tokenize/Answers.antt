@@ -1,19 +1,13 @@
 use Prim.Native.Nat.{ℕ}
-use mathlib.Core.Path.{◌≡◌, sym, ap, ◌∙◌}
+use mathlib.Core.Path.{ap, ◌∙◌}
 use mathlib.Core.List.{List}
 use native.Mathlib.Omega.{arith}
 use lib.ListN.{length}
-use Rattle.std.specs.Prelude.{Option}
 use Rattle.dogwood_rules.specs.Utf8.{decode, text_of}
-use Rattle.utf8.specs.Told.{left_at}
 use Rattle.utf8.proofs.Mark.{mark_inside, length_text}
 use Rattle.dogwood_syntax.specs.Answers.{answer, table_after}
-use Rattle.dogwood_syntax.proofs.Promise.{long_kept, bad_kept, text_kept, left_inside}
+use Rattle.dogwood_syntax.proofs.Promise.{long_kept, bad_kept, text_kept, left_inside, found}
 use Rattle.dogwood_syntax.proofs.tokenizing.tokenize.Goals as goal
-
--- what was found in the text
-found : (src text : List ℕ) (r : Option ℕ) → text ≡ text_of src → r ≡ left_at (length text) (decode text).1 → left_at (length (text_of src)) (decode (text_of src)).1 ≡ r
-found src text r e q = ap (λ (l : List ℕ). left_at (length l) (decode l).1) (sym e) ∙ sym q
 
 pub returns-then-src-gt-LONGEST : goal.returns-then-src-gt-LONGEST
 returns-then-src-gt-LONGEST c = long_kept c.args.src.now c.args.table.now c.if-src-gt-LONGEST.true
