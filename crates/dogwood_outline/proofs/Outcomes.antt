@@ -1,5 +1,5 @@
 -- Testing an outline alone, by what tokenising alone answered.
-use Rattle.std.specs.Prelude.{if◌then◌else◌}
+use Rattle.std.specs.Prelude.{Result, if◌then◌else◌}
 use mathlib.Core.Path.{◌≡◌, refl, sym, ◌∙◌, ap, subst}
 use mathlib.Core.Bool.{Bool, true, false}
 use mathlib.Core.List.{List}
@@ -16,10 +16,10 @@ use Rattle.dogwood_rules.specs.Outline.{fits}
 use Rattle.dogwood_rules.specs.Alone.{Alone, stopped, told, total, tokenised, verdict, tested}
 use Rattle.dogwood_rules.specs.Promises.{Tokenises, Tests, over}
 use Rattle.dogwood_rules.proofs.Wholes.{source_whole}
-use Rattle.dogwood_syntax.specs.declared.tokenizing.Tokenized.{Tokenized}
-use Rattle.dogwood_syntax.specs.Numbers.{number, value}
+use Rattle.dogwood_syntax.specs.declared.tokenizing.NotTokenized.{NotTokenized}
+use Rattle.dogwood_syntax.specs.declared.tokenizing.NotTokenized.TheVariants.{Unended, TooLong, NotUtf8, Small}
+use Rattle.dogwood_syntax.specs.Numbers.{refusal_number, number, value}
 use Rattle.dogwood_syntax.proofs.Filling.{length_words}
-use Rattle.utf8.proofs.Mark.{text_of_lem}
 use Rattle.dogwood_outline.specs.Pass.{placed_in}
 use Rattle.dogwood_outline.specs.Table.{fits_in}
 use Rattle.dogwood_outline.proofs.Judgements.{fits-table}
@@ -54,9 +54,16 @@ cut_of room (cut_into ps) e = by (ltb room (3 * length ps)) refl
     by true q = absurd (let z : 13 ≡ 0 = rw q at e in omega arith)
     by false q = record { ps = ps; is = refl; ample = ltb-false room (3 * length ps) q; tells = λ (f : List Placed → Alone). simp q }
 
-module _ (source table T : List ℕ) {x : Tokenized} (y : Tokenized) (q : x ≡ y) (t : Tokenises source table (number x) (value x) T) where
+-- no refusal is 0
+pub refusal_some : (e : NotTokenized) → refusal_number e ≡ 0 → ⊥
+refusal_some (Unended i) q = omega arith
+refusal_some TooLong q = omega arith
+refusal_some (NotUtf8 i) q = omega arith
+refusal_some (Small n) q = omega arith
+
+module _ (source table T : List ℕ) {x : Result ℕ NotTokenized} (y : Result ℕ NotTokenized) (q : x ≡ y) (t : Tokenises source table (number x) (value x) T) where
   pub kept : Tokenises source table (number y) (value y) T
-  kept = subst (λ (z : Tokenized). Tokenises source table (number z) (value z) T) q t
+  kept = subst (λ (z : Result ℕ NotTokenized). Tokenises source table (number z) (value z) T) q t
 
   pub refused_kept : (outline : List ℕ) → (number y ≡ 0 → ⊥) → Tests source outline table (number y) (value y) T
   unfolding tokenised tested
@@ -105,13 +112,14 @@ module _ (source table T : List ℕ) {x : Tokenized} (y : Tokenized) (q : x ≡ 
         let n : 3 * value y - 0 ≡ length (words_of ps) = let w = length_words ps in let c = counted in omega arith in
         (λ i. take (n i) (filled i)) ∙ take-append_seam (words_of ps) (drop (length (words_of ps)) table)
 
-    pub fit_kept : (outline : List ℕ) {mark : ℕ} {b : Bool} → mark ≡ length (mark_of source)
-        → b ≡ fits_in (take (length source - mark) (drop mark source)) (take (3 * value y - 0) (drop 0 T)) outline → Tests source outline table (if b then 0 else 4) 0 T
+    pub fit_kept : (outline : List ℕ) {behind : List ℕ} {b : Bool} → behind ≡ text_of source
+        → b ≡ fits_in behind (take (3 * value y) T) outline → Tests source outline table (if b then 0 else 4) 0 T
     unfolding tokenised tested verdict total
-    fit_kept outline {mark} {b} m h =
+    fit_kept outline {behind} {b} m h =
         let text = text_of source in
+        let whole : 3 * value y ≡ 3 * value y - 0 = omega arith in
         let e = cut.tells (verdict (length text) outline) in
-        let f : b ≡ fits (length text) (placed_in text) outline = h ∙ (λ i. fits_in (text_of_lem source mark m i) (part_filled i) outline) ∙ fits-table text outline in
+        let f : b ≡ fits (length text) (placed_in text) outline = h ∙ (λ i. fits_in (m i) ((ap (λ (n : ℕ). take n T) whole ∙ part_filled) i) outline) ∙ fits-table text outline in
         record {
           numbered = ap (λ (c : Bool). if c then 0 else 4) (f ∙ ap (λ (ps : List Placed). fits (length text) ps outline) (sym same_places)) ∙ sym (ap (λ (a : Alone). a.number) e);
           valued = sym (ap (λ (a : Alone). a.value) e);

@@ -1,24 +1,24 @@
 -- A turn of the loop over records: each refusal, and the way on.
+use Rattle.std.specs.Prelude.{None, Some}
 use mathlib.Core.Path.{◌≡◌, refl, sym, ◌∙◌, ap}
 use mathlib.Core.Bool.{Bool, true, false, not, ◌&&◌}
 use mathlib.Core.List.{List, [], ◌∷◌}
-use mathlib.Core.Option.{Option, none, some}
+use mathlib.Core.Option.{none, some}
 use Prim.Native.Nat.{ℕ, suc, ◌+◌, ◌*◌, ◌<◌, ◌≤◌}
 use native.Mathlib.Omega.{arith}
 use lib.Dec.{eqb}
 use lib.ListN.{length, get_or, drop}
 use borrow.Author.Tests.{ne_eqb}
-use Rattle.dogwood_rules.specs.Outline.{Statement, statements, kind_ok}
-use Rattle.utf8.specs.declared.Found.TheVariants.{At, Nothing}
-use Rattle.dogwood_words.specs.declared.records.Reading.TheVariants.{Whole, Short}
+use Rattle.std.specs.List.{slice_range}
+use Rattle.dogwood_rules.specs.Outline.{Span, Statement, statements, kind_ok}
 use Rattle.dogwood_words.specs.declared.records.Record.{Record}
-use Rattle.dogwood_words.specs.Records.{statement_at, record_at}
+use Rattle.dogwood_words.specs.Records.{spans_at, spans_in, statement_at, record_at}
 use Rattle.dogwood_words.specs.Search.{found_of, absent}
 use Rattle.dogwood_words.specs.Rows.{skip_in, gap_in}
 use Rattle.dogwood_outline.specs.Table.{parts_in, statements_in, fits_in}
 use Rattle.dogwood_words.proofs.Bools.{and_false}
-use Rattle.dogwood_words.proofs.Words.{records_end, records_stop, records_more, whole, said, unsaid}
-use Rattle.dogwood_outline.proofs.PartTurns.{parts_left, found_at, found_none}
+use Rattle.dogwood_words.proofs.Founds.{found_none, found_some}
+use Rattle.dogwood_words.proofs.Words.{records_end, records_stop, records_more, whole, said, unsaid, alone, alone_states, alone_bounds}
 
 -- One statement -------------------------------------------------------------------------------------------------------
 
@@ -50,65 +50,73 @@ abbrev pub records_left : List ℕ → List ℕ → List ℕ → ℕ → ℕ →
 records_left s t ws i row = fitting s t row (statements (drop i ws))
 
 module _ (s t ws : List ℕ) (i row : ℕ) where
-  no_more : length ws ≤ i → records_left s t ws i row ≡ not (absent (gap_in (length s) (length s) row (drop row t)))
+  -- behind the last record: no word is left over, and the text's end stands
+  pub left_end : length ws ≤ i → not (absent (gap_in (length s) (length s) row (drop row t))) ≡ records_left s t ws i row
   unfolding statements_in
-  no_more h = ap (fitting s t row) (records_end ws i h)
+  left_end h = sym (ap (fitting s t row) (records_end ws i h))
 
-  pub left_off : length ws ≤ i → found_of (gap_in (length s) (length s) row (drop row t)) ≡ Nothing → records_left s t ws i row ≡ false
-  left_off h e = no_more h ∙ ap (λ (o : Option ℕ). not (absent o)) (found_none (gap_in (length s) (length s) row (drop row t)) e)
+  pub left_over : i < length ws → None ≡ record_at ws i → false ≡ records_left s t ws i row
+  left_over h e =
+      sym (ap (fitting s t row) (records_stop ws i h (unsaid ws i e))
+      ∙ ap (λ (b : Bool). b && statements_in s t [] row) (ne_eqb (suc (length (drop (i + 1) ws))) 0 (λ (z : suc (length (drop (i + 1) ws)) ≡ 0). omega arith)))
 
-  pub left_end : {j : ℕ} → length ws ≤ i → found_of (gap_in (length s) (length s) row (drop row t)) ≡ At j → records_left s t ws i row ≡ true
-  left_end h e = no_more h ∙ ap (λ (o : Option ℕ). not (absent o)) (found_at (gap_in (length s) (length s) row (drop row t)) e)
+  module _ {r : Record} (q : Some r ≡ record_at ws i) where
+    is : whole ws i ≡ r
+    is = sym (said ws i q).is
 
-  module _ (h : i < length ws) where
-    pub left_none : record_at ws i ≡ Short → records_left s t ws i row ≡ false
-    left_none e =
-        ap (fitting s t row) (records_stop ws i h (unsaid ws i e))
-        ∙ ap (λ (b : Bool). b && statements_in s t [] row) (ne_eqb (suc (length (drop (i + 1) ws))) 0 (λ (z : suc (length (drop (i + 1) ws)) ≡ 0). omega arith))
+    abbrev after : List Statement × List ℕ
+    after = statements (drop (i + 4 + 2 * get_or ws (i + 3) 0) ws)
 
-    module _ {r : Record} (q : record_at ws i ≡ Whole r) where
-      is : whole ws i ≡ r
-      is = sym (said ws i q).is
+    step : {b : Bool} → statements_in s t (statement_at ws i ∷ after.0) row ≡ b → records_left s t ws i row ≡ eqb (length after.1) 0 && b
+    step e =
+        let d = said ws i q in
+        let h : i < length ws = let o = d.room in omega arith in
+        ap (fitting s t row) (records_more ws i h (statement_at ws i) (get_or ws (i + 3) 0) d.stated)
+        ∙ ap (λ (x : Bool). eqb (length after.1) 0 && x) e
 
-      abbrev after : List Statement × List ℕ
-      after = statements (drop (i + 4 + 2 * get_or ws (i + 3) 0) ws)
+    -- its words, and those of its parts' bounds
+    abbrev own : List ℕ
+    own = alone ws i q
 
-      step : {b : Bool} → statements_in s t (statement_at ws i ∷ after.0) row ≡ b → records_left s t ws i row ≡ eqb (length after.1) 0 && b
-      step e =
-          ap (fitting s t row) (records_more ws i h (statement_at ws i) (get_or ws (i + 3) 0) (said ws i q).stated)
-          ∙ ap (λ (x : Bool). eqb (length after.1) 0 && x) e
+    abbrev body : List ℕ
+    body = slice_range own 4 (length own)
 
-      stop : statements_in s t (statement_at ws i ∷ after.0) row ≡ false → records_left s t ws i row ≡ false
-      stop e = step e ∙ and_false (eqb (length after.1) 0)
+    kind : {b : Bool} → b ≡ kind_ok (statement_at own 0) → kind_ok (statement_at ws i) ≡ b
+    kind e = ap kind_ok (sym (alone_states ws i q)) ∙ sym e
 
-      pub left_kind : kind_ok (statement_at ws i) ≡ false → records_left s t ws i row ≡ false
-      left_kind e = stop (one_kind s t (statement_at ws i) after.0 row e)
+    stop : statements_in s t (statement_at ws i ∷ after.0) row ≡ false → false ≡ records_left s t ws i row
+    stop e = sym (step e ∙ and_false (eqb (length after.1) 0))
 
-      module _ (k : kind_ok (statement_at ws i) ≡ true) where
-        pub left_gap : found_of (gap_in (length s) r.start row (drop row t)) ≡ Nothing → records_left s t ws i row ≡ false
+    pub left_kind : false ≡ kind_ok (statement_at own 0) → false ≡ records_left s t ws i row
+    left_kind e = stop (one_kind s t (statement_at ws i) after.0 row (kind e))
+
+    module _ (k : true ≡ kind_ok (statement_at own 0)) where
+      pub left_gap : None ≡ found_of (gap_in (length s) r.start row (drop row t)) → false ≡ records_left s t ws i row
+      unfolding statement_at
+      left_gap e =
+          stop (one_gap s t (statement_at ws i) after.0 row (kind k)
+          (ap (λ (x : Record). gap_in (length s) x.start row (drop row t)) is ∙ found_none (gap_in (length s) r.start row (drop row t)) e))
+
+      module _ {j : ℕ} (f : Some j ≡ found_of (gap_in (length s) r.start row (drop row t))) where
+        there : gap_in (length s) (get_or ws (i + 1) 0) row (drop row t) ≡ some j
+        there = ap (λ (x : Record). gap_in (length s) x.start row (drop row t)) is ∙ found_some (gap_in (length s) r.start row (drop row t)) f
+
+        parted : {b : Bool} → b ≡ parts_in s t (spans_in body) r.end false j → parts_in s t (spans_at ws (get_or ws (i + 3) 0) (i + 4)) (get_or ws (i + 2) 0) false j ≡ b
+        parted e =
+            ap (λ (x : Record). parts_in s t (spans_at ws x.parts (i + 4)) x.end false j) is
+            ∙ ap (λ (ps : List Span). parts_in s t ps r.end false j) (sym (alone_bounds ws i q)) ∙ sym e
+
+        pub left_parts : false ≡ parts_in s t (spans_in body) r.end false j → false ≡ records_left s t ws i row
         unfolding statement_at
-        left_gap e =
-            stop (one_gap s t (statement_at ws i) after.0 row k
-            (ap (λ (x : Record). gap_in (length s) x.start row (drop row t)) is ∙ found_none (gap_in (length s) r.start row (drop row t)) e))
+        left_parts e = stop (one_parts s t (statement_at ws i) after.0 row (kind k) there (parted e))
 
-        module _ {j : ℕ} (f : found_of (gap_in (length s) r.start row (drop row t)) ≡ At j) where
-          there : gap_in (length s) (get_or ws (i + 1) 0) row (drop row t) ≡ some j
-          there = ap (λ (x : Record). gap_in (length s) x.start row (drop row t)) is ∙ found_at (gap_in (length s) r.start row (drop row t)) f
-
-          parted : {b : Bool} → parts_left s t ws r.parts (i + 4) r.end false j ≡ b → parts_left s t ws (get_or ws (i + 3) 0) (i + 4) (get_or ws (i + 2) 0) false j ≡ b
-          parted e = ap (λ (x : Record). parts_left s t ws x.parts (i + 4) x.end false j) is ∙ e
-
-          pub left_parts : parts_left s t ws r.parts (i + 4) r.end false j ≡ false → records_left s t ws i row ≡ false
-          unfolding statement_at
-          left_parts e = stop (one_parts s t (statement_at ws i) after.0 row k there (parted e))
-
-          pub left_on : parts_left s t ws r.parts (i + 4) r.end false j ≡ true → {m : ℕ} → m ≡ skip_in r.end j (drop j t)
-              → records_left s t ws i row ≡ records_left s t ws r.next m
-          unfolding statement_at
-          left_on e {m} z =
-              step (one_on s t (statement_at ws i) after.0 row k there (parted e))
-              ∙ ap (λ (x : Record). records_left s t ws x.next (skip_in x.end j (drop j t))) is
-              ∙ ap (records_left s t ws r.next) (sym z)
+        pub left_on : true ≡ parts_in s t (spans_in body) r.end false j → {m : ℕ} → m ≡ skip_in r.end j (drop j t)
+            → records_left s t ws r.next m ≡ records_left s t ws i row
+        unfolding statement_at
+        left_on e {m} z =
+            sym (step (one_on s t (statement_at ws i) after.0 row (kind k) there (parted e))
+            ∙ ap (λ (x : Record). records_left s t ws x.next (skip_in x.end j (drop j t))) is
+            ∙ ap (records_left s t ws r.next) (sym z))
 
 -- the whole walk is the test of fit
 pub left_all : (s t ws : List ℕ) → records_left s t ws 0 0 ≡ fits_in s t ws

@@ -5,7 +5,8 @@ use Prim.Native.Nat.{ℕ, ◌+◌, ◌<◌, ◌≤◌}
 use native.Mathlib.Omega.{arith}
 use lib.ListN.{length, drop}
 use Rattle.dogwood_rules.specs.Utf8.{decode, byte_length}
-use Rattle.dogwood_rules.specs.Token.{Token, Placed, kind_number, placed, tokenise}
+use Rattle.dogwood_rules.specs.Token.{Token, Placed, placed, tokenise}
+use Rattle.dogwood_rows.specs.Kinds.{kind_of}
 use Rattle.dogwood_tokens.specs.declared.cursor.Token.{Token as TokenOf}
 use Rattle.dogwood_tokens.specs.declared.cursor.Cursor.{Cursor as CursorOf}
 use Rattle.dogwood_tokens.specs.declared.cursor.Step.{Step}
@@ -32,7 +33,7 @@ took s i {t} {c} h =
     let m = next-token s i h in
     let p : Placed = m.first in
     let e : step_to p ≡ S.Token t c = m.step in
-    let y : ◌≡◌ {A = TokenOf} (record { kind = kind_number p.token.kind; start = p.start; end = p.stop }) t = cc in
+    let y : ◌≡◌ {A = TokenOf} (record { kind = kind_of p.token.kind; start = p.start; end = p.stop }) t = cc in
     let o = next_onward s i h in
     record {
       first = p;

@@ -4,11 +4,10 @@ ghost use Rattle.dogwood_outline.specs.Judges.{JudgesIn};
 
 use crate::fitting::fit;
 use dogwood_searches::{deep_opener, first_comment, nothing_there};
-use utf8::Found;
 
-// What stands between a text with its outline and its layout.
-#[derive(Clone, Copy)]
-pub enum Verdict {
+// Why a text with its outline is not laid out.
+#[derive(Clone, Copy, Debug, PartialEq, Eq)]
+pub enum Objection {
     // The outline does not fit.
     Misfit,
     // Where the first comment inside a statement begins.
@@ -17,27 +16,23 @@ pub enum Verdict {
     Empty,
     // The first opener that is nested too deep.
     Deep(usize),
-    Fine,
 }
 
 // Judges any bytes by any words for their tokens.
-pub fn judge(text: &[u8], table: &[u32], outline: &[u32]) -> Verdict
+pub fn judge(text: &[u8], table: &[u32], outline: &[u32]) -> Result<(), Objection>
     ensures { JudgesIn text.now table.now outline.now (number result) (place result) }
 {
     if !fit(text, table, outline) {
-        return Verdict::Misfit;
+        return Err(Objection::Misfit);
     }
-    match first_comment(table, outline) {
-        Found::At(place) => {
-            return Verdict::Remarked(place);
-        }
-        Found::Nothing => {}
+    if let Some(place) = first_comment(table, outline) {
+        return Err(Objection::Remarked(place));
     }
     if nothing_there(text, table, outline) {
-        return Verdict::Empty;
+        return Err(Objection::Empty);
     }
     match deep_opener(text, table) {
-        Found::At(place) => Verdict::Deep(place),
-        Found::Nothing => Verdict::Fine,
+        Some(place) => Err(Objection::Deep(place)),
+        None => Ok(()),
     }
 }

@@ -6,5 +6,5 @@ mod judging;
 mod kinds;
 mod testing;
 
-pub use judging::{Verdict, judge};
-pub use testing::{Tested, test_outline};
+pub use judging::{Objection, judge};
+pub use testing::{NotFitting, test_outline};

@@ -1,40 +1,36 @@
 // Testing an outline alone: 11, 12, 1, 13 as tokenising alone has them, then 4, else 0.
 ghost use Rattle.dogwood_rules.specs.Promises.{Tests};
-ghost use Rattle.dogwood_outline.specs.Numbers.{number, value};
+ghost use Rattle.dogwood_outline.specs.Numbers.{number, value, IsNotTokenized};
 
 use crate::fitting::fit;
-use dogwood_syntax::Tokenized;
+use dogwood_rows::WORDS;
+use dogwood_syntax::{NotTokenized, tokenize};
+use utf8::split_bom;
 
-// What testing an outline answers.
-#[derive(Clone, Copy)]
-pub enum Tested {
-    Fits,
-    // Where a string without end begins.
-    Unended(usize),
+// Why an outline is not found to fit.
+#[derive(Clone, Copy, Debug, PartialEq, Eq)]
+pub enum NotFitting {
+    // Its source has no tokens, or the table no room for them.
+    NotTokenized(NotTokenized),
     Misfit,
-    TooLong,
-    // Where the first bad character begins.
-    NotUtf8(usize),
-    // How many tokens the table has no room for.
-    Small(usize),
 }
 
-// The tokens of a source into a table, and whether the outline fits its text. The table stays as it is unless it is Fits or Misfit.
-pub fn test_outline(source: &[u8], outline: &[u32], table: &mut [u32]) -> Tested
+impl From<NotTokenized> for NotFitting {
+    ghost from_gives = { IsNotTokenized };
+
+    fn from(reason: NotTokenized) -> NotFitting {
+        NotFitting::NotTokenized(reason)
+    }
+}
+
+// The tokens of a source into a table, and whether the outline fits its text. The table stays as it is unless it is Ok or Misfit.
+pub fn test_outline(source: &[u8], outline: &[u32], table: &mut [u32]) -> Result<(), NotFitting>
     ensures { Tests source.now outline.now table.old (number result) (value result) table.new }
 {
-    match dogwood_syntax::tokenize(source, table) {
-        Tokenized::Unended(place) => Tested::Unended(place),
-        Tokenized::TooLong => Tested::TooLong,
-        Tokenized::NotUtf8(place) => Tested::NotUtf8(place),
-        Tokenized::Small(tokens) => Tested::Small(tokens),
-        Tokenized::Done(tokens) => {
-            let start = utf8::split_bom(source);
-            let end = 3 * tokens;
-            if fit(&source[start..], &table[0..end], outline) {
-                return Tested::Fits;
-            }
-            Tested::Misfit
-        }
+    let tokens = tokenize(source, table)?;
+    let (_, text) = split_bom(source);
+    if !fit(text, &table[..WORDS * tokens], outline) {
+        return Err(NotFitting::Misfit);
     }
+    Ok(())
 }

@@ -8,6 +8,7 @@ use lib.ListN.{length, get_or, take, drop, length-drop}
 use lib.Seq.{drop-drop}
 use Rattle.std.specs.Simd.{first_chunks}
 use Rattle.dogwood_words.specs.Rows.{row_of}
+use Rattle.dogwood_words.specs.Records.{spans_in}
 
 pub chunk_at : (n m k : ℕ) (xs : List ℕ) → k < m → get_or (first_chunks n m xs) k [] ≡ take n (drop (n * k) xs)
 chunk_at n zero k xs h = absurd (omega arith)
@@ -35,6 +36,23 @@ module _ (ws : List ℕ) (k : ℕ) where
           let u : t ≡ drop (3 * (k + 1)) ws = sym (ap (drop 3) q) ∙ drop-drop 3 (3 * k) ws ∙ ap (λ (n : ℕ). drop n ws) j in
           q ∙ (λ i. get_or (sym y i) 0 0 ∷ get_or (sym y i) 1 0 ∷ get_or (sym y i) 2 0 ∷ u i)
 
+  -- a piece of two, and the words behind it
+  pub pair : {xs : List (List ℕ)} → xs ≡ first_chunks 2 (length ws / 2) ws → length xs ≡ length ws / 2 → k < length xs
+      → drop (2 * k) ws ≡ get_or (get_or xs k []) 0 0 ∷ get_or (get_or xs k []) 1 0 ∷ drop (2 * (k + 1)) ws
+  pair {xs} f n h = by (drop (2 * k) ws) refl
+    where
+      x : List ℕ
+      x = get_or xs k []
+
+      by : (l : List ℕ) → drop (2 * k) ws ≡ l → drop (2 * k) ws ≡ get_or x 0 0 ∷ get_or x 1 0 ∷ drop (2 * (k + 1)) ws
+      by [] q = let a = length-drop (2 * k) ws in let b = ap length q in absurd (omega arith)
+      by (a ∷ []) q = let a' = length-drop (2 * k) ws in let b = ap length q in absurd (omega arith)
+      by (a ∷ b ∷ t) q =
+          let y : x ≡ a ∷ b ∷ [] = ap (λ (l : List (List ℕ)). get_or l k []) f ∙ chunk_at 2 (length ws / 2) k ws (omega arith) ∙ ap (take 2) q in
+          let j : 2 * k + 2 ≡ 2 * (k + 1) = omega arith in
+          let u : t ≡ drop (2 * (k + 1)) ws = sym (ap (drop 2) q) ∙ drop-drop 2 (2 * k) ws ∙ ap (λ (n : ℕ). drop n ws) j in
+          q ∙ (λ i. get_or (sym y i) 0 0 ∷ get_or (sym y i) 1 0 ∷ u i)
+
   -- no row behind the last piece
   pub pieces_end : length ws / 3 ≤ k → None ≡ row_of (3 * k) (drop (3 * k) ws)
   pieces_end h = by (drop (3 * k) ws) (let a = length-drop (3 * k) ws in omega arith)
@@ -44,3 +62,12 @@ module _ (ws : List ℕ) (k : ℕ) where
       by (a ∷ []) q = refl
       by (a ∷ b ∷ []) q = refl
       by (a ∷ b ∷ c ∷ t) q = absurd (omega arith)
+
+  pub pairs_end : length ws / 2 ≤ k → [] ≡ spans_in (drop (2 * k) ws)
+  unfolding spans_in
+  pairs_end h = by (drop (2 * k) ws) (let a = length-drop (2 * k) ws in omega arith)
+    where
+      by : (l : List ℕ) → length l < 2 → [] ≡ spans_in l
+      by [] q = refl
+      by (a ∷ []) q = refl
+      by (a ∷ b ∷ t) q = absurd (omega arith)

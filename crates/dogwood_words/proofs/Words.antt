@@ -7,15 +7,15 @@ use mathlib.Core.Option.{Option as Maybe, none, some}
 use Prim.Native.Nat.{ℕ, zero, suc, ◌+◌, ◌*◌, ◌-◌, ◌/◌, ◌<◌, ◌≤◌}
 use native.Mathlib.Omega.{arith}
 use native.Mathlib.Numerals.{towards_suc}
-use lib.ListN.{length, get_or, drop, length-drop, length-take, drop_of_length-le}
+use lib.ListN.{length, get_or, take, drop, length-drop, length-take, drop_of_length-le}
 use lib.Seq.{drop-cons, drop-drop, take_all}
 use Rattle.std.specs.List.{slice_range}
-use Rattle.std.proofs.lemmas.List.{get_or-drop}
+use Rattle.std.proofs.lemmas.List.{get_or-drop, get_or-take}
 use Rattle.dogwood_rules.specs.Basic.{cut, cut_after}
-use Rattle.dogwood_rules.specs.Outline.{Statement, add_span, spans, with_parts, statement, statements}
+use Rattle.dogwood_rules.specs.Outline.{Span, Statement, add_span, spans, with_parts, statement, statements}
 use Rattle.dogwood_rules.proofs.Cutting.{cut_step, cut_stop, before}
 use Rattle.dogwood_words.specs.declared.records.Record.{Record}
-use Rattle.dogwood_words.specs.Records.{spans_at, statement_at, reading_of, record_at}
+use Rattle.dogwood_words.specs.Records.{spans_at, spans_in, statement_at, reading_of, record_at}
 use Rattle.dogwood_words.proofs.Founds.{none_some, some_same}
 use borrow.Author.Tests.{leb-true, leb-false}
 use lib.Dec.{leb}
@@ -33,6 +33,16 @@ module _ (ws : List ℕ) where
     where
       plus_two : (k : ℕ) → k + 1 + 1 ≡ k + 2
       plus_two k = omega arith
+
+  -- the same spans, by pairs
+  pub spans_pairs : (n k : ℕ) → k + 2 * n ≤ length ws → spans_in (take (2 * n) (drop k ws)) ≡ spans_at ws n k
+  unfolding spans_in spans_at
+  spans_pairs zero k h = refl
+  spans_pairs (suc n) k h =
+      let q : 2 * suc n ≡ suc (suc (2 * n)) = omega arith in
+      let e : k + 1 + 1 ≡ k + 2 = omega arith in
+      let w : drop k ws ≡ get_or ws k 0 ∷ get_or ws (k + 1) 0 ∷ drop (k + 2) ws = one k (omega arith) ∙ ap (λ (l : List ℕ). get_or ws k 0 ∷ l) (one (k + 1) (omega arith) ∙ ap (λ (m : ℕ). get_or ws (k + 1) 0 ∷ drop m ws) e) in
+      (λ i. spans_in (take (q i) (w i))) ∙ ap (λ (l : List Span). record { start = get_or ws k 0; stop = get_or ws (k + 1) 0 } ∷ l) (spans_pairs n (k + 2) (omega arith))
 
 spans_short : (n : ℕ) (l : List ℕ) → length l < 2 * n → spans n l ≡ none
 unfolding spans add_span
@@ -155,15 +165,56 @@ module _ (ws : List ℕ) (i : ℕ) where
           let m = leb-true (i + 4 + 2 * get_or ws (i + 3) 0) (length ws) k in
           record { is = some_same (e ∙ sym (full l m)); room = m; stated = statement_at_lem ws i l m }
 
-  -- its parts' words are there, and the next record stands behind it
-  pub parts_room : {r : Record} → Some r ≡ record_at ws i → i + 4 + 2 * r.parts ≤ length ws
-  parts_room {r} e = let q = said e in let p : r.parts ≡ get_or ws (i + 3) 0 = ap (λ (x : Record). x.parts) q.is in omega (arith, q.room, p)
-
-  pub next_room : {r : Record} → Some r ≡ record_at ws i → (i < r.next) × (r.next ≤ length ws)
+  -- its words are there, and the next record stands behind them
+  pub next_room : {r : Record} → Some r ≡ record_at ws i → (i + 4 ≤ r.next) × (r.next ≤ length ws)
   next_room {r} e =
       let q = said e in
       let p : r.next ≡ i + 4 + 2 * get_or ws (i + 3) 0 = ap (λ (x : Record). x.next) q.is in
       (omega (arith, p), omega (arith, q.room, p))
+
+  -- its words alone
+  module _ {r : Record} (e : Some r ≡ record_at ws i) where
+    abbrev pub alone : List ℕ
+    alone = slice_range ws i r.next
+
+    next_is : r.next ≡ i + 4 + 2 * get_or ws (i + 3) 0
+    next_is = ap (λ (x : Record). x.next) (said e).is
+
+    alone_len : length alone ≡ r.next - i
+    alone_len = let q = (said e).room in let n = next_is in let d = length-drop i ws in let t = length-take (r.next - i) (drop i ws) in omega arith
+
+    word : (k : ℕ) → k < r.next - i → get_or alone k 0 ≡ get_or ws (i + k) 0
+    word k h = get_or-take (r.next - i) (drop i ws) k 0 h ∙ get_or-drop i ws k 0
+
+    spans_alone : (n k : ℕ) → k + 2 * n ≤ r.next - i → spans_at alone n k ≡ spans_at ws n (i + k)
+    unfolding spans_at
+    spans_alone zero k h = refl
+    spans_alone (suc n) k h =
+        let a = word k (omega arith) in
+        let b = word (k + 1) (omega arith) ∙ ap (λ (m : ℕ). get_or ws m 0) (let z : i + (k + 1) ≡ i + k + 1 = omega arith in z) in
+        let c = spans_alone n (k + 2) (omega arith) ∙ ap (spans_at ws n) (let z : i + (k + 2) ≡ i + k + 2 = omega arith in z) in
+        (λ j. record { start = a j; stop = b j } ∷ c j)
+
+    pub alone_counts : length alone ≡ 4 + 2 * get_or alone 3 0
+    alone_counts = let n = next_is in let l = alone_len in let w = word 3 (omega arith) in omega arith
+
+    pub alone_states : statement_at alone 0 ≡ statement_at ws i
+    unfolding statement_at
+    alone_states =
+        let n = next_is in
+        let first = word 0 (omega arith) ∙ ap (λ (m : ℕ). get_or ws m 0) (let z : i + 0 ≡ i = omega arith in z) in
+        let count = word 3 (omega arith) in
+        let parts = ap (λ (m : ℕ). spans_at alone m 4) count ∙ spans_alone (get_or ws (i + 3) 0) 4 (omega arith) in
+        (λ j. record { kind = first j; span = record { start = word 1 (omega arith) j; stop = word 2 (omega arith) j }; parts = parts j })
+
+    -- the bounds of its parts
+    pub alone_bounds : spans_in (slice_range alone 4 (length alone)) ≡ spans_at ws r.parts (i + 4)
+    alone_bounds =
+        let n = next_is in
+        let l = alone_len in
+        let p : r.parts ≡ get_or ws (i + 3) 0 = ap (λ (x : Record). x.parts) (said e).is in
+        let m : length alone - 4 ≡ 2 * r.parts = omega arith in
+        ap (λ (k : ℕ). spans_in (take k (drop 4 alone))) m ∙ spans_pairs alone r.parts 4 (omega arith) ∙ spans_alone r.parts 4 (omega arith)
 
   -- where there is none
   pub unsaid : None ≡ record_at ws i → statement (drop i ws) ≡ none

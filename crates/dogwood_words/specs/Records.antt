@@ -9,6 +9,12 @@ unfoldable pub spans_at : List ℕ → ℕ → ℕ → List Span
 spans_at ws zero k = []
 spans_at ws (suc n) k = record { start = get_or ws k 0; stop = get_or ws (k + 1) 0 } ∷ spans_at ws n (k + 2)
 
+-- the spans of words by pairs: a word left over at the end bounds none
+unfoldable pub spans_in : List ℕ → List Span
+spans_in [] = []
+spans_in (a ∷ []) = []
+spans_in (a ∷ b ∷ ws) = record { start = a; stop = b } ∷ spans_in ws
+
 -- the record of the words from i on; 0 for a word that is not there
 unfoldable pub statement_at : List ℕ → ℕ → Statement
 statement_at ws i =

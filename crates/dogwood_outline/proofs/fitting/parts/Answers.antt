@@ -1,44 +1,35 @@
-use Prim.Native.Nat.{◌+◌}
-use mathlib.Core.Path.{refl, sym, ◌∙◌}
+use mathlib.Core.Path.{◌∙◌}
 use native.Mathlib.Omega.{arith}
-use Rattle.dogwood_outline.proofs.PartTurns.{left_off, left_none, left_empty, left_gap, left_part, left_on}
+use Rattle.dogwood_words.proofs.Chunks.{pair, pairs_end}
+use Rattle.dogwood_outline.proofs.PartTurns.{left_empty, left_gap, left_part, left_on, left_end, left_unseen}
 use Rattle.dogwood_outline.proofs.fitting.parts.Goals as goal
-
-pub loop-left-init : goal.loop-left-init
-loop-left-init c = (refl, c.requires)
-
-pub overflow_cast-start : goal.overflow_cast-start
-overflow_cast-start c = omega (arith, c.type_inv.outline c.loop-left.at)
-
-pub overflow_cast-stop : goal.overflow_cast-stop
-overflow_cast-stop c = omega (arith, c.type_inv.outline (c.loop-left.at + 1))
 
 pub returns-then-stop-start : goal.returns-then-stop-start
 returns-then-stop-start c =
-    let s = c.args in
-    sym (left_empty s.text.now s.table.now s.outline.now c.loop-left.left c.loop-left.at s.p.end c.loop-left.seen c.loop-left.i c.loop-left-test.true c.if-stop-start.true) ∙ c.loop-left.invariant.0
+    let e = pair c.args.bounds.now c.loop-start.start-index c.as_chunks.ensures.front c.as_chunks.ensures.front_len c.loop-start-test.true in
+    left_empty _ _ _ _ _ e c.if-stop-start.true ∙ c.loop-start.invariant
 
 pub returns-in_default : goal.returns-in_default
 returns-in_default c =
-    let s = c.args in
-    sym (left_gap s.text.now s.table.now s.outline.now c.loop-left.left c.loop-left.at s.p.end c.loop-left.seen c.loop-left.i c.loop-left-test.true c.if-stop-start.false (sym c.gap.ensures ∙ c.in_default.is)) ∙ c.loop-left.invariant.0
+    let e = pair c.args.bounds.now c.loop-start.start-index c.as_chunks.ensures.front c.as_chunks.ensures.front_len c.loop-start-test.true in
+    left_gap _ _ _ _ _ e c.if-stop-start.false c.in_default.ensures ∙ c.loop-start.invariant
 
 pub returns-in_default-part : goal.returns-in_default-part
 returns-in_default-part c =
-    let s = c.args in
-    sym (left_part s.text.now s.table.now s.outline.now c.loop-left.left c.loop-left.at s.p.end c.loop-left.seen c.loop-left.i c.loop-left-test.true c.if-stop-start.false (sym c.gap.ensures ∙ c.in-At.is) (sym c.part.ensures ∙ c.in_default-part.is)) ∙ c.loop-left.invariant.0
+    let e = pair c.args.bounds.now c.loop-start.start-index c.as_chunks.ensures.front c.as_chunks.ensures.front_len c.loop-start-test.true in
+    left_part _ _ _ _ _ e c.if-stop-start.false c.in-Some.ensures c.in_default-part.ensures ∙ c.loop-start.invariant
 
-pub loop-left-preserved : goal.loop-left-preserved
-loop-left-preserved c =
-    let s = c.args in
-    (sym (left_on s.text.now s.table.now s.outline.now c.loop-left.left c.loop-left.at s.p.end c.loop-left.seen c.loop-left.i c.loop-left-test.true c.if-stop-start.false (sym c.gap.ensures ∙ c.in-At.is) (sym c.part.ensures ∙ c.in-Sound.is)) ∙ c.loop-left.invariant.0, omega (arith, c.loop-left.invariant.1, c.loop-left-test.true))
+pub loop-start-preserved : goal.loop-start-preserved
+loop-start-preserved c =
+    let e = pair c.args.bounds.now c.loop-start.start-index c.as_chunks.ensures.front c.as_chunks.ensures.front_len c.loop-start-test.true in
+    left_on _ _ _ _ _ e c.if-stop-start.false c.in-Some.ensures c.in-Some-part.ensures ∙ c.loop-start.invariant
 
-pub returns-in_default-gap : goal.returns-in_default-gap
-returns-in_default-gap c =
-    let s = c.args in
-    sym (left_off s.text.now s.table.now s.outline.now c.loop-left.left c.loop-left.at s.p.end c.loop-left.seen c.loop-left.i c.loop-left-test.false (sym c.gap-2.ensures ∙ c.in_default-gap.is)) ∙ c.loop-left.invariant.0
+pub returns-then-seen : goal.returns-then-seen
+returns-then-seen c =
+    let e = pairs_end c.args.bounds.now c.loop-start.start-index (omega (arith, c.loop-start-test.false, c.as_chunks.ensures.front_len)) in
+    c.is_some.ensures ∙ left_end _ _ _ _ _ _ e c.if-seen.true c.gap-then-seen.ensures ∙ c.loop-start.invariant
 
-pub returns : goal.returns
-returns c =
-    let s = c.args in
-    sym (left_none s.text.now s.table.now s.outline.now c.loop-left.left c.loop-left.at s.p.end c.loop-left.seen c.loop-left.i c.loop-left-test.false (sym c.gap-2.ensures ∙ c.in-At-gap.is)) ∙ c.loop-left.invariant.0
+pub returns-else-seen : goal.returns-else-seen
+returns-else-seen c =
+    let e = pairs_end c.args.bounds.now c.loop-start.start-index (omega (arith, c.loop-start-test.false, c.as_chunks.ensures.front_len)) in
+    left_unseen _ _ _ _ _ _ e c.if-seen.false ∙ c.loop-start.invariant

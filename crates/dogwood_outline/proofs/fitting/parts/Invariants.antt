@@ -1,12 +1,10 @@
-use Prim.Native.Nat.{◌+◌, ◌*◌, ◌≤◌}
+use Prim.Native.Nat.{◌*◌}
 use mathlib.Core.Path.{◌≡◌}
 use mathlib.Core.Bool.{false}
-use lib.ListN.{length}
+use lib.ListN.{drop}
 use Rattle.dogwood_outline.proofs.PartTurns.{parts_left}
 use Rattle.dogwood_outline.proofs.fitting.parts.Given as goal
 
-abbrev pub invariant-loop-left : goal.invariant-loop-left
-invariant-loop-left l = (parts_left l.text l.table l.outline l.left l.at l.p.end l.seen l.i ≡ parts_left l.text l.table l.outline l.p.count l.p.word l.p.end false l.p.row) × (l.at + 2 * l.left ≤ length l.outline)
-
-abbrev pub decreases-loop-left : goal.decreases-loop-left
-decreases-loop-left l = l.left
+abbrev pub invariant-loop-start : goal.invariant-loop-start
+invariant-loop-start l =
+    parts_left l.text l.table l.end l.seen l.at (drop (2 * l.start-index) l.bounds) ≡ parts_left l.text l.table l.end false l.row l.bounds

@@ -1,22 +1,19 @@
-use mathlib.Core.Path.{sym, ◌∙◌}
+use mathlib.Core.Path.{sym}
 use Rattle.dogwood_outline.proofs.JudgeSteps.{judged_misfit, judged_remarked, judged-empty, judged-deep, judged_fine}
 use Rattle.dogwood_outline.proofs.judging.judge.Goals as goal
 
 pub returns-then-not-fit : goal.returns-then-not-fit
-returns-then-not-fit c = judged_misfit c.args.text.now c.args.table.now c.args.outline.now (sym c.fit.ensures ∙ c.if-not-fit.true)
+returns-then-not-fit c = judged_misfit _ _ _ (sym c.if-not-fit.ensures)
 
-pub returns-in-At : goal.returns-in-At
-returns-in-At c =
-    judged_remarked c.args.text.now c.args.table.now c.args.outline.now (sym c.fit.ensures ∙ c.if-not-fit.false) (sym c.in-At.is ∙ c.first_comment.ensures)
+pub returns-in-Some : goal.returns-in-Some
+returns-in-Some c = judged_remarked _ _ _ (sym c.if-not-fit.ensures) c.in-Some.ensures
 
 pub returns-then-nothing_there : goal.returns-then-nothing_there
-returns-then-nothing_there c =
-    judged-empty c.args.text.now c.args.table.now c.args.outline.now (sym c.fit.ensures ∙ c.if-not-fit.false) (sym c.in-Nothing.is ∙ c.first_comment.ensures) (sym c.nothing_there.ensures ∙ c.if-nothing_there.true)
+returns-then-nothing_there c = judged-empty _ _ _ (sym c.if-not-fit.ensures) c.in_default.ensures (sym c.if-nothing_there.ensures)
 
-pub returns-in-At-deep_opener : goal.returns-in-At-deep_opener
-returns-in-At-deep_opener c =
-    judged-deep c.args.text.now c.args.table.now c.args.outline.now (sym c.fit.ensures ∙ c.if-not-fit.false) (sym c.in-Nothing.is ∙ c.first_comment.ensures) (sym c.nothing_there.ensures ∙ c.if-nothing_there.false) (sym c.in-At-deep_opener.is ∙ c.deep_opener.ensures)
+pub returns-in-Some-deep_opener : goal.returns-in-Some-deep_opener
+returns-in-Some-deep_opener c =
+    judged-deep _ _ _ (sym c.if-not-fit.ensures) c.in_default.ensures (sym c.if-nothing_there.ensures) c.in-Some-deep_opener.ensures
 
-pub returns-in-Nothing-deep_opener : goal.returns-in-Nothing-deep_opener
-returns-in-Nothing-deep_opener c =
-    judged_fine c.args.text.now c.args.table.now c.args.outline.now (sym c.fit.ensures ∙ c.if-not-fit.false) (sym c.in-Nothing.is ∙ c.first_comment.ensures) (sym c.nothing_there.ensures ∙ c.if-nothing_there.false) (sym c.in-Nothing-deep_opener.is ∙ c.deep_opener.ensures)
+pub returns-in-None : goal.returns-in-None
+returns-in-None c = judged_fine _ _ _ (sym c.if-not-fit.ensures) c.in_default.ensures (sym c.if-nothing_there.ensures) c.in-None.ensures

@@ -1,5 +1,5 @@
 use Prim.Native.Nat.{ℕ, ◌+◌, ◌*◌}
-use mathlib.Core.Path.{refl, ap, ◌∙◌}
+use mathlib.Core.Path.{ap, ◌∙◌}
 use native.Mathlib.Omega.{arith}
 use lib.ListN.{drop}
 use Rattle.dogwood_words.specs.Search.{found_of}
@@ -9,16 +9,10 @@ use Rattle.dogwood_searches.proofs.TableSearch.{deep_done, deep_here, deep_open,
 use Rattle.dogwood_searches.proofs.searches.deep_opener.Goals.{then-opens+else-depth-eq-DEEPEST, else-opens+then-closes, else-opens+else-closes}
 use Rattle.dogwood_searches.proofs.searches.deep_opener.Goals as goal
 
-pub loop-kind-init : goal.loop-kind-init
-loop-kind-init c = (refl, omega arith)
-
 pub returns-then-depth-eq-DEEPEST : goal.returns-then-depth-eq-DEEPEST
 returns-then-depth-eq-DEEPEST c =
     let t = triple c.args.table.now c.loop-kind.kind-index c.as_chunks.ensures.front c.as_chunks.ensures.front_len c.loop-kind-test.true in
     ap found_of (deep_here c.args.text.now c.args.table.now _ _ t c.byte-first.ensures c.if-opens.ensures c.if-depth-eq-DEEPEST.true ∙ c.loop-kind.invariant.0)
-
-pub overflow_add-depth : goal.overflow_add-depth
-overflow_add-depth c = omega (arith, c.loop-kind.invariant.1)
 
 pub loop-kind-preserved : goal.loop-kind-preserved
 loop-kind-preserved c =
