@@ -5,18 +5,6 @@ use Rattle.utf8.proofs.Valid.{bad_char, bad_ascii, bad_fault, bad_end}
 use Rattle.utf8.proofs.Whole.{bad_from_lem}
 use Rattle.utf8.proofs.first_bad.Goals as goal
 
-pub loop-i-init : goal.loop-i-init
-loop-i-init c = c.ascii_end-i.ensures.1
-
-pub bounds-s-i : goal.bounds-s-i
-bounds-s-i c = omega arith
-
-pub overflow_add-i : goal.overflow_add-i
-overflow_add-i c = omega arith
-
-pub loop-i-smaller-then-s-i-lt128 : goal.loop-i-smaller-then-s-i-lt128
-loop-i-smaller-then-s-i-lt128 c = omega arith
-
 pub loop-i-preserved-then-s-i-lt128 : goal.loop-i-preserved-then-s-i-lt128
 loop-i-preserved-then-s-i-lt128 c = sym (bad_ascii c.args.s.now c.loop-i.i c.loop-i-test.true c.if-s-i-lt128.true) ∙ c.loop-i.invariant
 

@@ -1,7 +1,5 @@
-use Prim.Native.Nat.{◌-◌}
 use native.Mathlib.Omega.{arith}
 use borrow.Author.Tests.{eq-eqb, ne_eqb, lt-ltb, le-ltb}
-use lib.Count.{leading_le}
 use Rattle.utf8.proofs.Laws.{by_bits_lem}
 use Rattle.utf8.proofs.sequence.Goals as goal
 
@@ -13,9 +11,6 @@ returns-then-b-lt194 c = rw (← by_bits_lem c.args.b c.ranges.b.fits) (simp (ne
 
 pub returns-then-b-gt244 : goal.returns-then-b-gt244
 returns-then-b-gt244 c = rw (← by_bits_lem c.args.b c.ranges.b.fits) (simp (ne_eqb _ _ c.if-n-eq0.false, le-ltb _ _ c.if-b-lt194.false, lt-ltb _ _ c.if-b-gt244.true))
-
-pub overflow_cast-result : goal.overflow_cast-result
-overflow_cast-result c = omega (arith, leading_le 8 (255 - c.args.b))
 
 pub returns : goal.returns
 returns c = rw (← by_bits_lem c.args.b c.ranges.b.fits) (simp (ne_eqb _ _ c.if-n-eq0.false, le-ltb c.args.b 194 (omega arith), le-ltb _ _ c.if-b-gt244.false))

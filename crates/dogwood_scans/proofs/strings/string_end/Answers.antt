@@ -1,53 +1,19 @@
-use Prim.Native.Nat.{◌+◌, ◌-◌}
-use mathlib.Core.Path.{◌≡◌, refl, sym, ap, ◌∙◌}
+use Prim.Native.Nat.{◌+◌}
+use mathlib.Core.Path.{refl, sym, ◌∙◌}
 use native.Mathlib.Omega.{arith}
 use Rattle.utf8.proofs.Inside.{plain}
 use Rattle.utf8.proofs.Reading.{end_fault}
-use Rattle.dogwood_scans.specs.Run.{string_end}
 use Rattle.dogwood_scans.proofs.Run.{string_out, string_close, string_past, string_escape, string_open}
 use Rattle.dogwood_scans.proofs.strings.string_end.Goals as goal
-
-pub loop-i-init : goal.loop-i-init
-loop-i-init c = refl
-
-pub bounds-s-i : goal.bounds-s-i
-bounds-s-i c = omega arith
-
-pub overflow_add-result : goal.overflow_add-result
-overflow_add-result c = omega arith
 
 pub returns-then-b-eq34 : goal.returns-then-b-eq34
 returns-then-b-eq34 c = sym (string_close c.args.s.now c.loop-i.i (plain c.args.s.now c.loop-i.i _ c.loop-i-test.true refl (omega arith)) c.if-b-eq34.true) ∙ c.loop-i.invariant
 
-pub returns-then-b-ge128 : goal.returns-then-b-ge128
-returns-then-b-ge128 c = c.string_rest.ensures ∙ c.loop-i.invariant
-
-pub overflow_add-i : goal.overflow_add-i
-overflow_add-i c = omega arith
-
 pub returns-then-s-i : goal.returns-then-s-i
 returns-then-s-i c = sym (string_open c.args.s.now c.loop-i.i (plain c.args.s.now c.loop-i.i _ c.loop-i-test.true refl c.if-b-ge128.false) c.if-b-eq34.false c.if-b-eq92.true (end_fault c.args.s.now (c.loop-i.i + 1) c.if-s-i.true)) ∙ c.loop-i.invariant
 
-pub bounds-s-i-then-b-eq92 : goal.bounds-s-i-then-b-eq92
-bounds-s-i-then-b-eq92 c = omega arith
-
-pub overflow_sub-i : goal.overflow_sub-i
-overflow_sub-i c = omega arith
-
-pub returns-then-s-i-ge128 : goal.returns-then-s-i-ge128
-returns-then-s-i-ge128 c = c.string_rest-then-s-i-ge128.ensures ∙ (let q : c.loop-i.i + 1 - 1 ≡ c.loop-i.i = omega arith in ap (string_end c.args.s.now) q) ∙ c.loop-i.invariant
-
-pub overflow_add-i-then-b-eq92 : goal.overflow_add-i-then-b-eq92
-overflow_add-i-then-b-eq92 c = omega arith
-
-pub loop-i-smaller-then-b-eq92 : goal.loop-i-smaller-then-b-eq92
-loop-i-smaller-then-b-eq92 c = omega arith
-
 pub loop-i-preserved-then-b-eq92 : goal.loop-i-preserved-then-b-eq92
 loop-i-preserved-then-b-eq92 c = sym (string_escape c.args.s.now c.loop-i.i (plain c.args.s.now c.loop-i.i _ c.loop-i-test.true refl c.if-b-ge128.false) c.if-b-eq34.false c.if-b-eq92.true (plain c.args.s.now (c.loop-i.i + 1) _ c.if-s-i.false refl c.if-s-i-ge128.false)) ∙ c.loop-i.invariant
-
-pub loop-i-smaller : goal.loop-i-smaller
-loop-i-smaller c = omega arith
 
 pub loop-i-preserved : goal.loop-i-preserved
 loop-i-preserved c = sym (string_past c.args.s.now c.loop-i.i (plain c.args.s.now c.loop-i.i _ c.loop-i-test.true refl c.if-b-ge128.false) c.if-b-eq34.false (λ e. omega arith)) ∙ c.loop-i.invariant

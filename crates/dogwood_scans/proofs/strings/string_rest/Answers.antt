@@ -1,12 +1,9 @@
 use Prim.Native.Nat.{◌+◌}
-use mathlib.Core.Path.{refl, sym, ◌∙◌}
+use mathlib.Core.Path.{sym, ◌∙◌}
 use native.Mathlib.Omega.{arith}
 use Rattle.utf8.proofs.Inside.{inside}
 use Rattle.dogwood_scans.proofs.Run.{string_cut, string_close, string_past, string_escape, string_open}
 use Rattle.dogwood_scans.proofs.strings.string_rest.Goals as goal
-
-pub loop-code-init : goal.loop-code-init
-loop-code-init c = refl
 
 pub returns-in_err-code : goal.returns-in_err-code
 returns-in_err-code c = c.from_residual.ensures ∙ sym (string_cut _ _ (sym c.decode.ensures ∙ c.in_err-code.was)) ∙ c.loop-code.invariant

@@ -1,7 +1,6 @@
 use Prim.Native.Nat.{ℕ, ◌+◌, ◌*◌, ◌≤◌}
 use mathlib.Core.Path.{◌≡◌, refl, sym, ap, ◌∙◌}
 use native.Mathlib.Omega.{arith}
-use native.Mathlib.Nat.{zero-add}
 use lib.ListN.{length}
 use lib.Seq.{sets}
 use lib.Dec.{leb}
@@ -18,22 +17,10 @@ use Rattle.dogwood_tokens.proofs.Steps.{next_onward, next-token, next_bounds, wo
 use Rattle.dogwood_syntax.proofs.Filling.{put_on, put_length, length_words}
 use Rattle.dogwood_syntax.proofs.table.fill.Goals as goal
 
-pub loop-token-init : goal.loop-token-init
-loop-token-init c = (
-  omega arith,
-  omega (arith, c.new-cursor.ensures),
-  refl,
-  zero-add _ ∙ ap (λ (i : ℕ). length (tokens_at c.args.text.now i)) c.new-cursor.ensures,
-  λ h. ap (λ (i : ℕ). sets c.args.table.now 0 (words_of (tokens_at c.args.text.now i))) c.new-cursor.ensures,
-)
-
 pub overflow_cast-behind : goal.overflow_cast-behind
 overflow_cast-behind c =
     let q = next_onward c.args.text.now c.loop-token.cursor.at (sym c.next.ensures ∙ c.in-Token.is) in
     omega (arith, c.requires)
-
-pub overflow_add-n : goal.overflow_add-n
-overflow_add-n c = omega (arith, next_onward c.args.text.now c.loop-token.cursor.at (sym c.next.ensures ∙ c.in-Token.is))
 
 pub loop-token-smaller : goal.loop-token-smaller
 loop-token-smaller c = omega (arith, next_onward c.args.text.now c.loop-token.cursor.at (sym c.next.ensures ∙ c.in-Token.is))

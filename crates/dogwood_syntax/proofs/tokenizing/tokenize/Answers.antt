@@ -3,25 +3,13 @@ use mathlib.Core.Path.{ap, ◌∙◌}
 use mathlib.Core.List.{List}
 use native.Mathlib.Omega.{arith}
 use lib.ListN.{length}
-use Rattle.dogwood_rules.specs.Utf8.{decode, text_of}
 use Rattle.utf8.proofs.Mark.{mark_inside, length_text}
 use Rattle.dogwood_syntax.specs.Answers.{answer, table_after}
-use Rattle.dogwood_syntax.proofs.Promise.{long_kept, bad_kept, text_kept, left_inside, found}
+use Rattle.dogwood_syntax.proofs.Promise.{long_kept, bad_kept, text_kept, found}
 use Rattle.dogwood_syntax.proofs.tokenizing.tokenize.Goals as goal
 
 pub returns-then-src-gt-LONGEST : goal.returns-then-src-gt-LONGEST
 returns-then-src-gt-LONGEST c = long_kept c.args.src.now c.args.table.now c.if-src-gt-LONGEST.true
-
-pub overflow_add-result : goal.overflow_add-result
-overflow_add-result c =
-    let s = c.args.src.now in
-    omega (
-      arith,
-      mark_inside s,
-      length_text s,
-      ap length c.split_bom.ensures.mark,
-      left_inside (length (text_of s)) (decode (text_of s)).1 _ (found s _ _ c.split_bom.ensures.text c.first_bad.ensures ∙ c.in-Some.is),
-    )
 
 pub returns-in-Some : goal.returns-in-Some
 returns-in-Some c =

@@ -1,20 +1,11 @@
 use Prim.Native.Nat.{◌+◌}
-use mathlib.Core.Path.{refl, sym, ap, ◌∙◌}
+use mathlib.Core.Path.{sym, ap, ◌∙◌}
 use native.Mathlib.Omega.{arith}
 use Rattle.utf8.proofs.Inside.{inside}
 use Rattle.dogwood_tokens.specs.Scan.{scan_from}
 use Rattle.dogwood_tokens.proofs.Bounds.{string_inside}
 use Rattle.dogwood_tokens.proofs.Scan.{open_scan, scan_out, scan_fault, byte_closed, byte_open, byte_comment, comment_inside, byte_past, wide_past}
 use Rattle.dogwood_tokens.proofs.open.first_open.Goals as goal
-
-pub loop-i-init : goal.loop-i-init
-loop-i-init c = refl
-
-pub bounds-s-i : goal.bounds-s-i
-bounds-s-i c = omega arith
-
-pub overflow_add-i : goal.overflow_add-i
-overflow_add-i c = omega arith
 
 pub returns-in_default : goal.returns-in_default
 returns-in_default c = sym (byte_open c.args.s.now c.loop-i.i c.loop-i-test.true c.if-b-eq34.true (sym c.string_end.ensures ∙ c.in_default.is)) ∙ c.loop-i.invariant ∙ sym (open_scan c.args.s.now 0)
@@ -37,29 +28,14 @@ loop-i-smaller-then-b-ge128 c = omega (arith, inside c.args.s.now c.loop-i.i (sy
 pub loop-i-preserved-then-b-ge128 : goal.loop-i-preserved-then-b-ge128
 loop-i-preserved-then-b-ge128 c = sym (wide_past c.args.s.now c.loop-i.i c.loop-i-test.true (sym c.decode.ensures ∙ c.in_ok-i.was) c.if-b-ge128.true) ∙ c.loop-i.invariant
 
-pub overflow_add-i-then-b-eq47 : goal.overflow_add-i-then-b-eq47
-overflow_add-i-then-b-eq47 c = omega arith
-
 pub loop-i-smaller-then-comment : goal.loop-i-smaller-then-comment
 loop-i-smaller-then-comment c = omega (arith, c.take_while-i.ensures, comment_inside c.args.s.now c.loop-i.i c.loop-i-test.true c.if-b-eq47.true)
 
 pub loop-i-preserved-then-comment : goal.loop-i-preserved-then-comment
 loop-i-preserved-then-comment c = ap (scan_from c.args.s.now) c.take_while-i.ensures ∙ sym (byte_comment c.args.s.now c.loop-i.i c.loop-i-test.true c.if-b-eq47.true (sym c.byte-comment.ensures ∙ c.if-comment.true)) ∙ c.loop-i.invariant
 
-pub overflow_add-i-else-comment : goal.overflow_add-i-else-comment
-overflow_add-i-else-comment c = omega arith
-
-pub loop-i-smaller-else-comment : goal.loop-i-smaller-else-comment
-loop-i-smaller-else-comment c = omega arith
-
 pub loop-i-preserved-else-comment : goal.loop-i-preserved-else-comment
 loop-i-preserved-else-comment c = sym (byte_past c.args.s.now c.loop-i.i c.loop-i-test.true c.if-b-ge128.false c.if-b-eq34.false (λ _ e. c.if-comment.false (c.byte-comment.ensures ∙ e))) ∙ c.loop-i.invariant
-
-pub overflow_add-i-else-b-eq47 : goal.overflow_add-i-else-b-eq47
-overflow_add-i-else-b-eq47 c = omega arith
-
-pub loop-i-smaller : goal.loop-i-smaller
-loop-i-smaller c = omega arith
 
 pub loop-i-preserved : goal.loop-i-preserved
 loop-i-preserved c = sym (byte_past c.args.s.now c.loop-i.i c.loop-i-test.true c.if-b-ge128.false c.if-b-eq34.false (λ e _. c.if-b-eq47.false e)) ∙ c.loop-i.invariant
