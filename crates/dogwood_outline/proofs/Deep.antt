@@ -1,6 +1,6 @@
 -- Answer 5: where the outline fits, the depth in the text as a whole is the depth in each part.
 use mathlib.Core.Path.{◌≡◌, refl, sym, ◌∙◌, ap}
-use mathlib.Core.Bool.{Bool, true, false, not, ◌&&◌, ◌||◌}
+use mathlib.Core.Bool.{Bool, true, false, not, ◌&&◌, ◌||◌, or-true}
 use mathlib.Core.List.{List, [], ◌∷◌, ◌++◌}
 use mathlib.Core.Option.{Option, none, some}
 use Prim.Native.Nat.{ℕ, suc, ◌+◌, ◌-◌, ◌≤◌}
@@ -18,7 +18,7 @@ use Rattle.dogwood_rules.proofs.Below.{and_true}
 use Rattle.dogwood_rules.proofs.Fitting.{fits_says}
 use Rattle.dogwood_rules.proofs.Chains.{Read, Chain, chain_more, tokenise_made}
 use Rattle.dogwood_outline.specs.Pass.{quiet, placed_in}
-use Rattle.dogwood_words.proofs.Bools.{false_true, or_true}
+use Rattle.dogwood_words.proofs.Bools.{false_true}
 use Rattle.dogwood_outline.proofs.Spans.{from_on, from_off, up_to_on, up_to_off, from_from}
 use Rattle.dogwood_outline.proofs.PartsPass.{gaps_step, balance_step, within_step, beyond_step}
 use Rattle.dogwood_outline.proofs.Symbols.{no_opener, no_closer}
@@ -155,7 +155,7 @@ calm_token t k r = by (plain t) refl
     by : (b : Bool) → plain t ≡ b → plain t || (not (opener t) && not (closer t)) ≡ true
     by true e = ap (λ (w : Bool). w || (not (opener t) && not (closer t))) e
     by false e =
-        (λ i. plain t || (not (no_opener t k r e i) && not (no_closer t k r e i))) ∙ or_true (plain t)
+        (λ i. plain t || (not (no_opener t k r e i) && not (no_closer t k r e i))) ∙ or-true (plain t)
 
 placed_calm : {k : List ℕ} (ts : List Token) (at : ℕ) → Chain k ts → every calm (placed at ts) ≡ true
 unfolding placed

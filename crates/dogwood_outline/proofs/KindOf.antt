@@ -1,6 +1,6 @@
 -- The kind of the record at a place, case by case.
 use mathlib.Core.Path.{◌≡◌, refl, ◌∙◌, ap}
-use mathlib.Core.Bool.{Bool, true, false, ◌&&◌, ◌||◌}
+use mathlib.Core.Bool.{Bool, true, false, ◌&&◌, ◌||◌, and-false}
 use mathlib.Core.List.{List}
 use Prim.Native.Nat.{ℕ, zero, suc, ◌+◌}
 use native.Mathlib.Omega.{arith}
@@ -8,7 +8,6 @@ use lib.Dec.{eqb}
 use lib.ListN.{get_or}
 use borrow.Author.Tests.{eq-eqb, ne_eqb}
 use Rattle.dogwood_rules.specs.Outline.{Span, kind_ok, only_part, same_span}
-use Rattle.dogwood_words.proofs.Bools.{and_false}
 use Rattle.dogwood_words.specs.Records.{spans_at, statement_at}
 
 not_only : (s : Span) (ws : List ℕ) (n k : ℕ) → (n ≡ 1 → ⊥) → only_part s (spans_at ws n k) ≡ false
@@ -31,7 +30,7 @@ module _ (ws : List ℕ) (i : ℕ) where
   kind_count e f =
       let s : Span = record { start = get_or ws (i + 1) 0; stop = get_or ws (i + 2) 0 } in
       ap (λ (x : Bool). x || eqb (get_or ws i 0) 0 && only_part s (spans_at ws (get_or ws (i + 3) 0) (i + 4))) (ne_eqb (get_or ws i 0) 1 e)
-      ∙ ap (λ (x : Bool). eqb (get_or ws i 0) 0 && x) (not_only s ws (get_or ws (i + 3) 0) (i + 4) f) ∙ and_false (eqb (get_or ws i 0) 0)
+      ∙ ap (λ (x : Bool). eqb (get_or ws i 0) 0 && x) (not_only s ws (get_or ws (i + 3) 0) (i + 4) f) ∙ and-false (eqb (get_or ws i 0) 0)
 
   pub kind_span : get_or ws i 0 ≡ 0 → get_or ws (i + 3) 0 ≡ 1
       → kind_ok (statement_at ws i) ≡ eqb (get_or ws (i + 1) 0) (get_or ws (i + 4) 0) && eqb (get_or ws (i + 2) 0) (get_or ws (i + 5) 0)

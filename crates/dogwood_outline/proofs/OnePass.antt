@@ -1,6 +1,6 @@
 -- THE LAW OF THE PASS: over the tokens of a text it is the rules' test of fit.
 use mathlib.Core.Path.{◌≡◌, refl, sym, ◌∙◌, ap}
-use mathlib.Core.Bool.{Bool, true, false, ◌&&◌, ◌||◌}
+use mathlib.Core.Bool.{Bool, true, false, ◌&&◌, ◌||◌, or-false, or-true}
 use mathlib.Core.List.{List, [], ◌∷◌}
 use Prim.Native.Nat.{ℕ, ◌<◌, ◌≤◌}
 use native.Mathlib.Omega.{arith}
@@ -13,7 +13,8 @@ use Rattle.dogwood_rules.specs.Outline.{Statement, statements, up_to, from, with
 use Rattle.dogwood_rules.proofs.Below.{and_true}
 use Rattle.dogwood_rules.proofs.Fitting.{fits_says, says_fits}
 use Rattle.dogwood_outline.specs.Pass.{quiet, here, stands, gap, parts_pass, statement_pass, outline_pass, passes}
-use Rattle.dogwood_words.proofs.Bools.{or_false, or_true, both_ways, eqb_sym}
+use Rattle.std.specs.Cmp.{both_ways}
+use Rattle.dogwood_words.proofs.Bools.{eqb_sym}
 use Rattle.dogwood_outline.proofs.Spans.{from_on, from_off, stands-le, stands_here, word_below, Below, below_from, below_here, below_all, below_none}
 use Rattle.dogwood_outline.proofs.PartsPass.{bounded_from, parts_say, parts_pass_lem}
 
@@ -157,7 +158,7 @@ module _ (end stop : ℕ) (le : stop ≤ end) where
   -- a place is a boundary exactly where it stands among the tokens
   tiled_bounded : {at : ℕ} {ps : List Placed} → Tiled stop at ps → (n : ℕ) → boundary end ps n ≡ stands end n ps
   unfolding boundary from
-  tiled_bounded tiled_end n = or_false (eqb n end) ∙ eqb_sym n end
+  tiled_bounded tiled_end n = or-false (eqb n end) ∙ eqb_sym n end
   tiled_bounded (tiled_more {p} {ps} l c) n = go (tiled_bounded c n) (ltb p.start n) (eqb p.start n) refl refl
     where
       go : boundary end ps n ≡ stands end n ps → (t u : Bool) → ltb p.start n ≡ t → eqb p.start n ≡ u → boundary end (p ∷ ps) n ≡ stands end n (p ∷ ps)
@@ -167,7 +168,7 @@ module _ (end stop : ℕ) (le : stop ≤ end) where
           ∙ h ∙ ap (λ (qs : List Placed). eqb (here end qs) n) (sym (from_on n p ps e))
       go h false true e f =
           ap (λ (x : Bool). eqb n end || (x || some? (λ (q : Placed). eqb n q.start) ps)) (eqb_sym n p.start ∙ f)
-          ∙ or_true (eqb n end) ∙ sym (ap (λ (qs : List Placed). eqb (here end qs) n) (from_off n p ps e) ∙ f)
+          ∙ or-true (eqb n end) ∙ sym (ap (λ (qs : List Placed). eqb (here end qs) n) (from_off n p ps e) ∙ f)
       go h false false e f =
           let k = ltb-false p.start n e in
           let z = eqb-false p.start n f in

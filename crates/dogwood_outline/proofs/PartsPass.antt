@@ -1,6 +1,6 @@
 -- The pass over a statement's parts, and what the rules say of them.
 use mathlib.Core.Path.{◌≡◌, refl, sym, ◌∙◌, ap}
-use mathlib.Core.Bool.{Bool, true, ◌&&◌, ◌||◌}
+use mathlib.Core.Bool.{Bool, true, ◌&&◌, ◌||◌, or-false, or_assoc}
 use mathlib.Core.List.{List, [], ◌∷◌}
 use Prim.Native.Nat.{ℕ, ◌≤◌}
 use native.Mathlib.Omega.{arith}
@@ -11,7 +11,6 @@ use Rattle.dogwood_rules.specs.Token.{Placed, tokens}
 use Rattle.dogwood_rules.specs.Outline.{Span, up_to, from, within, beyond, parts_of, plain, gaps_ok, ascending, balanced, boundary, boundaries}
 use Rattle.dogwood_rules.proofs.Below.{and_true}
 use Rattle.dogwood_outline.specs.Pass.{quiet, here, stands, spoken, gap, part, parts_pass}
-use Rattle.dogwood_words.proofs.Bools.{or_assoc, or_false}
 use Rattle.dogwood_outline.proofs.Spans.{from_from, up_to-up_to, from_up_to, some_split, quiet_none, stands-le, stands_here}
 
 -- One part --------------------------------------------------------------------------------------------------------
@@ -107,7 +106,7 @@ module _ (end : ℕ) (all : List Placed) where
         stop = ih.stop;
         covered = gaps_step s ss b ps l m ∙ simp (g.0, ih.covered);
         balance = balance_step s ss b ps l m ∙ simp (k.0, ih.balance);
-        used = ap (λ (x : Bool). seen || x) (word_step s ss b ps l m g.0) ∙ or_assoc seen some₁ (some? plain (tokens (up_to b ps₂))) ∙ ih.used;
+        used = ap (λ (x : Bool). seen || x) (word_step s ss b ps l m g.0) ∙ sym (or_assoc seen some₁ (some? plain (tokens (up_to b ps₂)))) ∙ ih.used;
         room = omega (arith, low, l, m);
       }
 
@@ -115,7 +114,7 @@ module _ (end : ℕ) (all : List Placed) where
   unfolding parts_pass gap part spoken gaps_ok ascending boundaries parts_of
   parts_pass_lem [] b seen ps B p =
       let st : stands end b ps ≡ true = sym (B b p.room) ∙ p.stop in
-      let no : seen ≡ true = sym (or_false seen) ∙ ap (λ (x : Bool). seen || x) (sym (quiet_none (tokens (up_to b ps)) p.covered)) ∙ p.used in
+      let no : seen ≡ true = sym (or-false seen) ∙ ap (λ (x : Bool). seen || x) (sym (quiet_none (tokens (up_to b ps)) p.covered)) ∙ p.used in
       simp (no, p.covered, st)
   parts_pass_lem (s ∷ ss) b seen ps B p =
       let ps₁ = from s.start ps in
@@ -146,7 +145,7 @@ module _ (end : ℕ) (all : List Placed) where
         stop = p.stop;
         covered = g.1;
         balance = k.1;
-        used = sym (or_assoc seen some₁ (some? plain (tokens (up_to b ps₂)))) ∙ ap (λ (x : Bool). seen || x) (sym (word_step s ss b ps l m g.0)) ∙ p.used;
+        used = or_assoc seen some₁ (some? plain (tokens (up_to b ps₂))) ∙ ap (λ (x : Bool). seen || x) (sym (word_step s ss b ps l m g.0)) ∙ p.used;
         room = omega (arith, at₂, m);
       }) in
       simp (a₂.1, g.0, st₁, k.0, st₂, ih)

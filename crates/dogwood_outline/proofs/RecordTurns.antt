@@ -1,7 +1,7 @@
 -- A turn of the loop over records: each refusal, and the way on.
 use Rattle.std.specs.Prelude.{None, Some}
 use mathlib.Core.Path.{◌≡◌, refl, sym, ◌∙◌, ap}
-use mathlib.Core.Bool.{Bool, true, false, not, ◌&&◌}
+use mathlib.Core.Bool.{Bool, true, false, not, ◌&&◌, and-false}
 use mathlib.Core.List.{List, [], ◌∷◌}
 use mathlib.Core.Option.{none, some}
 use Prim.Native.Nat.{ℕ, suc, ◌+◌, ◌*◌, ◌<◌, ◌≤◌}
@@ -16,7 +16,6 @@ use Rattle.dogwood_words.specs.Records.{spans_at, spans_in, statement_at, record
 use Rattle.dogwood_words.specs.Search.{found_of, absent}
 use Rattle.dogwood_words.specs.Rows.{skip_in, gap_in}
 use Rattle.dogwood_outline.specs.Table.{parts_in, statements_in, fits_in}
-use Rattle.dogwood_words.proofs.Bools.{and_false}
 use Rattle.dogwood_words.proofs.Founds.{found_none, found_some}
 use Rattle.dogwood_words.proofs.Words.{records_end, records_stop, records_more, whole, said, unsaid, alone, alone_states, alone_bounds}
 
@@ -85,7 +84,7 @@ module _ (s t ws : List ℕ) (i row : ℕ) where
     kind e = ap kind_ok (sym (alone_states ws i q)) ∙ sym e
 
     stop : statements_in s t (statement_at ws i ∷ after.0) row ≡ false → false ≡ records_left s t ws i row
-    stop e = sym (step e ∙ and_false (eqb (length after.1) 0))
+    stop e = sym (step e ∙ and-false (eqb (length after.1) 0))
 
     pub left_kind : false ≡ kind_ok (statement_at own 0) → false ≡ records_left s t ws i row
     left_kind e = stop (one_kind s t (statement_at ws i) after.0 row (kind e))

@@ -1,6 +1,6 @@
 -- Placed tokens before and from a place on: how two places work together.
 use mathlib.Core.Path.{◌≡◌, refl, sym, ◌∙◌, ap}
-use mathlib.Core.Bool.{Bool, true, false, not, ◌||◌}
+use mathlib.Core.Bool.{Bool, true, false, not, ◌||◌, or_assoc}
 use mathlib.Core.List.{List, [], ◌∷◌}
 use Prim.Native.Nat.{ℕ, ◌<◌, ◌≤◌}
 use native.Mathlib.Omega.{arith}
@@ -11,7 +11,7 @@ use Rattle.dogwood_rules.specs.Token.{Token, Placed, tokens}
 use Rattle.dogwood_rules.specs.Outline.{up_to, from, plain}
 use Rattle.dogwood_rules.proofs.Below.{and_true}
 use Rattle.dogwood_outline.specs.Pass.{quiet, here, stands}
-use Rattle.dogwood_words.proofs.Bools.{false_true, or_assoc}
+use Rattle.dogwood_words.proofs.Bools.{false_true}
 
 module _ (n : ℕ) (p : Placed) (ps : List Placed) where
   pub from_on : ltb p.start n ≡ true → from n (p ∷ ps) ≡ from n ps
@@ -70,7 +70,7 @@ some_split q b (p ∷ ps) l = go (some_split q b ps l) (ltb p.start b) (ltb p.st
   where
     go : some? plain (tokens (up_to b ps)) ≡ some? plain (tokens (up_to q ps)) || some? plain (tokens (up_to b (from q ps))) → (t u : Bool) → ltb p.start b ≡ t → ltb p.start q ≡ u
         → some? plain (tokens (up_to b (p ∷ ps))) ≡ some? plain (tokens (up_to q (p ∷ ps))) || some? plain (tokens (up_to b (from q (p ∷ ps))))
-    go h true true e f = rw (e, f, up_to, from) (ap (λ (x : Bool). plain p.token || x) h ∙ or_assoc (plain p.token) (some? plain (tokens (up_to q ps))) (some? plain (tokens (up_to b (from q ps)))))
+    go h true true e f = rw (e, f, up_to, from) (ap (λ (x : Bool). plain p.token || x) h ∙ sym (or_assoc (plain p.token) (some? plain (tokens (up_to q ps))) (some? plain (tokens (up_to b (from q ps))))))
     go h true false e f = simp (up_to_off q p ps f, from_off q p ps f)
     go h false true e f = let x = ltb-false p.start b e in let y = ltb-true p.start q f in absurd (omega arith)
     go h false false e f = simp (up_to_off q p ps f, from_off q p ps f)

@@ -1,6 +1,6 @@
 -- A token is a bracket by its kind and its first character, and so by the byte at its start.
 use mathlib.Core.Path.{◌≡◌, refl, sym, ◌∙◌, ap, subst}
-use mathlib.Core.Bool.{Bool, true, false, not, ◌&&◌, ◌||◌}
+use mathlib.Core.Bool.{Bool, true, false, not, ◌&&◌, ◌||◌, and-false}
 use mathlib.Core.List.{List, [], ◌∷◌, ◌++◌}
 use Prim.Native.Nat.{ℕ, ◌+◌, ◌<◌, ◌≤◌}
 use native.Mathlib.Omega.{arith}
@@ -18,7 +18,7 @@ use Rattle.dogwood_rules.proofs.Chains.{Read, Chain, chain_more, tokenise_made}
 use Rattle.utf8.proofs.Reading.{Reads, reads_more, reads_at, byte_at}
 use Rattle.dogwood_tokens.specs.Cursor.{tokens_at}
 use Rattle.dogwood_words.specs.Brackets.{opening, closing}
-use Rattle.dogwood_words.proofs.Bools.{false_true, and_false}
+use Rattle.dogwood_words.proofs.Bools.{false_true}
 
 -- One character ----------------------------------------------------------------------------------------------------
 
@@ -61,7 +61,7 @@ lone x h =
     }
   where
     and_right : (a : Bool) {b : Bool} → b ≡ false → a && b ≡ false
-    and_right a e = ap (λ (c : Bool). a && c) e ∙ and_false a
+    and_right a e = ap (λ (c : Bool). a && c) e ∙ and-false a
 
 differ : (f : ℕ → Bool) (a x : ℕ) {u : Bool} → f a ≡ u → f x ≡ not u → eqb a x ≡ false
 differ f a x {u} p q = ne_eqb a x (λ (e : a ≡ x). no u (sym p ∙ ap f e ∙ q))
@@ -74,7 +74,7 @@ module _ (x : ℕ) (l : Lone x) (t : Token) (k : List ℕ) (r : Read t k) where
   apart : eqb r.first x ≡ false → same t.text (x ∷ []) ≡ eqb (kind_number t.kind) 5 && eqb r.first x
   apart e =
       ap (λ (cs : List ℕ). same cs (x ∷ [])) r.text ∙ ap (λ (b : Bool). b && same r.more []) e
-      ∙ sym (ap (λ (b : Bool). eqb (kind_number t.kind) 5 && b) e ∙ and_false (eqb (kind_number t.kind) 5))
+      ∙ sym (ap (λ (b : Bool). eqb (kind_number t.kind) 5 && b) e ∙ and-false (eqb (kind_number t.kind) 5))
 
   alone : (more : List ℕ) → r.more ≡ more → length more ≡ 0 → t.kind ≡ Symbol → same t.text (x ∷ []) ≡ eqb (kind_number t.kind) 5 && eqb r.first x
   unfolding kind_number

@@ -1,7 +1,7 @@
 -- A table that has the words of some tokens: the walks over it say what the rules say of the tokens.
 use Rattle.std.specs.Prelude.{if◌then◌else◌}
 use mathlib.Core.Path.{◌≡◌, refl, sym, ◌∙◌, ap, subst}
-use mathlib.Core.Bool.{Bool, true, false, not, ◌&&◌, ◌||◌}
+use mathlib.Core.Bool.{Bool, true, false, not, ◌&&◌, ◌||◌, or-false, or_assoc}
 use mathlib.Core.List.{List, [], ◌∷◌}
 use mathlib.Core.Option.{Option, none, some}
 use Prim.Native.Nat.{ℕ, suc, ◌+◌, ◌-◌, ◌*◌}
@@ -21,7 +21,6 @@ use Rattle.dogwood_words.specs.Search.{absent}
 use Rattle.dogwood_words.specs.Rows.{skip_in, gap_in, part_in}
 use Rattle.dogwood_outline.specs.Table.{parts_in, statements_in}
 use Rattle.dogwood_searches.specs.Searches.{comment_before, deep_in, first_comment_in}
-use Rattle.dogwood_words.proofs.Bools.{or_assoc, or_false}
 use Rattle.dogwood_outline.proofs.Spans.{from_on, from_off, up_to_on, up_to_off}
 use Rattle.dogwood_outline.proofs.SearchSteps.{deep_here, deep_open, deep_close, deep-plain}
 
@@ -164,7 +163,7 @@ module _ (text : List ℕ) (n d : ℕ) (seen : Bool) (i : ℕ) where
       (i + 3 * suc (length us))
 
   same_stop : (s : ℕ) → sound (eqb d 0 && eqb s n) seen i ≡ sound (eqb d 0 && eqb s n) (seen || false) (i + 3 * 0)
-  same_stop s j = sound (eqb d 0 && eqb s n) (sym (or_false seen) j) ((let q : i ≡ i + 3 * 0 = omega arith in q) j)
+  same_stop s j = sound (eqb d 0 && eqb s n) (sym (or-false seen) j) ((let q : i ≡ i + 3 * 0 = omega arith in q) j)
 
 part_words_lem : (text : List ℕ) (n d : ℕ) (seen : Bool) (i : ℕ) {ps : List Placed} → Bracketed text ps
     → part_in text n d seen i (words_of ps) ≡ sound (part (length text) d n ps) (seen || spoken n ps) (i + before n ps)
@@ -183,7 +182,7 @@ part_words_lem text n d seen i (bracketed-more {p} {ps} o c h) =
         ∙ sym (λ j. part_of text n d seen i (up_to_on n p ps e j) (from_on n p ps e j))
 
     step : (x : Bool) → sound x (seen || plain p.token || spoken n ps) (i + 3 + before n ps) ≡ sound x (seen || (plain p.token || spoken n ps)) (i + 3 * suc (length (up_to n ps)))
-    step x j = sound x (sym (or_assoc seen (plain p.token) (spoken n ps)) j) ((let q : i + 3 + before n ps ≡ i + 3 * suc (length (up_to n ps)) = omega arith in q) j)
+    step x j = sound x (or_assoc seen (plain p.token) (spoken n ps) j) ((let q : i + 3 + before n ps ≡ i + 3 * suc (length (up_to n ps)) = omega arith in q) j)
 
     by : ((d : ℕ) (seen : Bool) (i : ℕ) → part_in text n d seen i (words_of ps) ≡ sound (part (length text) d n ps) (seen || spoken n ps) (i + before n ps))
         → (b : Bool) → ltb p.start n ≡ b → (x : Bool) → opener p.token ≡ x → (y : Bool) → closer p.token ≡ y → (z : Bool) → eqb d 0 ≡ z

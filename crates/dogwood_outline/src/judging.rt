@@ -31,8 +31,8 @@ pub fn judge(text: &[u8], table: &[u32], outline: &[u32]) -> Result<(), Objectio
     if nothing_there(text, table, outline) {
         return Err(Objection::Empty);
     }
-    match deep_opener(text, table) {
-        Some(place) => Err(Objection::Deep(place)),
-        None => Ok(()),
+    if let Some(place) = deep_opener(text, table) {
+        return Err(Objection::Deep(place));
     }
+    Ok(())
 }

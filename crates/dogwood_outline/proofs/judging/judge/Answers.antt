@@ -15,5 +15,5 @@ pub returns-in-Some-deep_opener : goal.returns-in-Some-deep_opener
 returns-in-Some-deep_opener c =
     judged-deep _ _ _ (sym c.if-not-fit.ensures) c.in_default.ensures (sym c.if-nothing_there.ensures) c.in-Some-deep_opener.ensures
 
-pub returns-in-None : goal.returns-in-None
-returns-in-None c = judged_fine _ _ _ (sym c.if-not-fit.ensures) c.in_default.ensures (sym c.if-nothing_there.ensures) c.in-None.ensures
+pub returns : goal.returns
+returns c = judged_fine _ _ _ (sym c.if-not-fit.ensures) c.in_default.ensures (sym c.if-nothing_there.ensures) c.in_default-deep_opener.ensures
