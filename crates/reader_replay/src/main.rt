@@ -3,7 +3,7 @@
 // first; then the source.
 #![tactic(auto)]
 
-use dogwood_reader::{Reading, nth_reading};
+use dogwood_reader::{Reading, Refusal, nth_reading};
 use files::{next_part, put_number, put_pair, put_text, read_words, replay};
 use std::io;
 use std::io::{Read, Write};
@@ -11,14 +11,15 @@ use std::io::{Read, Write};
 // Writes a reading, and answers whether it is a token.
 fn put_reading<W: Write>(reading: Reading, out: &mut W) -> io::Result<bool> {
     match reading {
-        Reading::Token(kind, start, end) => {
-            put_pair(out, kind, start)?;
+        Reading::Token(token) => {
+            put_pair(out, u32::from(token.kind), token.start)?;
             put_text(out, b" ")?;
-            put_number(out, end as u64)?;
+            put_number(out, token.end as u64)?;
         }
         Reading::Ended => put_text(out, b"end")?,
         Reading::NoEnd(place) => put_pair(out, 1, place)?,
-        Reading::Refused(number, place) => put_pair(out, number, place)?,
+        Reading::Refused(Refusal::TooLong) => put_pair(out, 11, 0)?,
+        Reading::Refused(Refusal::NotUtf8(place)) => put_pair(out, 12, place)?,
     }
     put_text(out, b";")?;
     Ok(matches!(reading, Reading::Token(..)))
