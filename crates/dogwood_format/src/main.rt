@@ -3,7 +3,7 @@
 #![tactic(auto)]
 
 use dogwood_formatter::format_policies;
-use dogwood_told::{Told, tell};
+use dogwood_told::Told;
 use files::{open_arg, put_pair, put_text, read_whole, take_words, within};
 use std::io;
 use std::io::Write;
@@ -23,11 +23,10 @@ fn put_told<W: Write>(told: Told, written: &[u8], out: &mut W) -> io::Result<()>
 // promised too; `within` says it in the words that lending a part asks for.
 fn run<W: Write>(source: &[u8], bytes: &[u8], outline: &mut [u32], out: &mut W) -> io::Result<()> {
     take_words(bytes, outline);
-    let mut table = [0u32; 12288];
-    let mut output = [0u8; 65536];
-    let told = tell(format_policies(source, outline, &mut table, &mut output));
-    let n = within(told.len, &output);
-    put_told(told, &output[..n], out)
+    let mut table = [0; 12288];
+    let mut output = [0; 65536];
+    let told = Told::from(format_policies(source, outline, &mut table, &mut output));
+    put_told(told, within(told.len, &output), out)
 }
 
 fn run_with_outline<R: Env + Files, W: Write>(
@@ -38,7 +37,7 @@ fn run_with_outline<R: Env + Files, W: Write>(
     let Some(mut file) = open_arg(rt, 2) else {
         return bad_file(out);
     };
-    let mut bytes = [0u8; 16384];
+    let mut bytes = [0; 16384];
     let Some(n) = read_whole(&mut file, &mut bytes) else {
         return bad_file(out);
     };
@@ -46,8 +45,8 @@ fn run_with_outline<R: Env + Files, W: Write>(
         return bad_file(out);
     }
     let count = n / 4;
-    let mut outline = [0u32; 4096];
-    run(source, &bytes[..n], &mut outline[0..count], out)
+    let mut outline = [0; 4096];
+    run(source, &bytes[..n], &mut outline[..count], out)
 }
 
 fn main(rt: HostRuntime) -> io::Result<()> {
@@ -55,7 +54,7 @@ fn main(rt: HostRuntime) -> io::Result<()> {
     let Some(mut file) = open_arg(&rt, 1) else {
         return bad_file(&mut out);
     };
-    let mut source = [0u8; 4096];
+    let mut source = [0; 4096];
     let Some(n) = read_whole(&mut file, &mut source) else {
         return bad_file(&mut out);
     };

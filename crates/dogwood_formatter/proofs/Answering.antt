@@ -1,33 +1,32 @@
 -- From what tokenising, judging and offering say to what the whole call answers.
-use Rattle.std.specs.Prelude.{if◌then◌else◌}
+use Rattle.std.specs.Prelude.{Result, Err, if◌then◌else◌}
 use mathlib.Core.Path.{◌≡◌, refl, sym, ◌∙◌, ap, subst}
 use mathlib.Core.Bool.{Bool, true, false}
 use mathlib.Core.List.{List, []}
 use Prim.Native.Nat.{ℕ, ◌-◌, ◌*◌, ◌<◌, ◌≤◌}
 use native.Mathlib.Omega.{arith}
 use lib.Dec.{leb, ltb, eqb}
-use lib.ListN.{length, take, drop}
+use lib.ListN.{length, take}
 use borrow.Author.Tests.{le-leb, lt-leb}
-use Rattle.dogwood_rules.specs.Utf8.{mark_of, text_of}
+use Rattle.dogwood_rules.specs.Utf8.{text_of}
 use Rattle.dogwood_rules.specs.Token.{Placed, words_of}
 use Rattle.dogwood_rules.specs.Layout.{house}
 use Rattle.dogwood_rules.specs.Source.{Source, too_long, not_utf8, unended, cut_into, source_of}
 use Rattle.dogwood_rules.specs.Alone.{Alone, stopped, told, total, tokenised}
 use Rattle.dogwood_rules.specs.Answer.{Answer, checked, refused, answered, answer}
 use Rattle.dogwood_rules.specs.Promises.{over, Tokenises, Answered}
-use Rattle.utf8.proofs.Mark.{text_of_lem}
-use Rattle.dogwood_syntax.specs.declared.tokenizing.Tokenized.{Tokenized}
+use Rattle.dogwood_syntax.specs.declared.tokenizing.NotTokenized.{NotTokenized}
 use Rattle.dogwood_syntax.specs.Numbers.{number as number_tokens, value}
-use Rattle.dogwood_outline.specs.declared.judging.Verdict.{Verdict}
+use Rattle.dogwood_outline.specs.declared.judging.Objection.{Objection}
+use Rattle.dogwood_outline.specs.declared.judging.Objection.TheVariants.{Misfit, Remarked, Empty, Deep}
 use Rattle.dogwood_outline.specs.Pass.{placed_in}
 use Rattle.dogwood_outline.specs.Verdicts.{Judges, number as number_judged, place as place_judged}
 use Rattle.dogwood_outline.specs.Judges.{JudgesIn}
 use Rattle.dogwood_outline.proofs.Judgements.{judges_table}
 use Rattle.dogwood_outline.proofs.Outcomes.{kept as same-call, cut, same_places, filled, part_filled}
 use Rattle.dogwood_outline.proofs.Answers.{written as written_under, answer-judged}
-use Rattle.dogwood_formatter.specs.declared.format.Formatted.{Formatted}
-use Rattle.dogwood_formatter.specs.declared.format.Formatted.TheVariants.{NoRoom}
-use Rattle.dogwood_formatter.specs.Numbers.{number, place, length as written}
+use Rattle.dogwood_formatter.specs.declared.format.NotFormatted.TheVariants.{NoRoom}
+use Rattle.dogwood_formatter.specs.Numbers.{Formatted, number, place, length as written}
 use Rattle.dogwood_formatter.specs.Offers.{Offered}
 use Rattle.dogwood_formatter.specs.Settled.{Given, Settled}
 
@@ -45,7 +44,7 @@ module _ {bytes old new : List ℕ} {len : ℕ} (o : Offered bytes old len new) 
         output = o.written;
       }
 
-  pub given_none : length old < len → Given n p bytes old (NoRoom len) new
+  pub given_none : length old < len → Given n p bytes old (Err (NoRoom len)) new
   given_none h =
       let c = o.count in
       let none : leb (length bytes) (length old) ≡ false = lt-leb (length bytes) (length old) (omega arith) in
@@ -58,11 +57,25 @@ module _ {bytes old new : List ℕ} {len : ℕ} (o : Offered bytes old len new) 
 
 -- Judged behind the mark ---------------------------------------------------------------------------------------------------
 
-pub judged_as : (source outline : List ℕ) {table : List ℕ} {mark : ℕ} {v : Verdict} (w : Verdict) → table ≡ words_of (placed_in (text_of source)) → mark ≡ length (mark_of source) → v ≡ w
-    → JudgesIn (take (length source - mark) (drop mark source)) table outline (number_judged v) (place_judged v) → Judges (text_of source) outline (number_judged w) (place_judged w)
-judged_as source outline {table} {mark} {v} w k e q j =
+abbrev Verdict : Type 0
+Verdict = Result (Unit {0}) Objection
+
+pub judged_as : (source outline : List ℕ) {text table : List ℕ} {v : Verdict} (w : Verdict) → table ≡ words_of (placed_in (text_of source)) → text ≡ text_of source → v ≡ w
+    → JudgesIn text table outline (number_judged v) (place_judged v) → Judges (text_of source) outline (number_judged w) (place_judged w)
+judged_as source outline {text} {table} {v} w k e q j =
     subst (λ (x : Verdict). Judges (text_of source) outline (number_judged x) (place_judged x)) q
-    (judges_table (text_of source) outline (subst (λ (l : List ℕ). JudgesIn (text_of source) l outline (number_judged v) (place_judged v)) k (subst (λ (l : List ℕ). JudgesIn l table outline (number_judged v) (place_judged v)) (text_of_lem source mark e) j)))
+    (judges_table (text_of source) outline (subst (λ (l : List ℕ). JudgesIn (text_of source) l outline (number_judged v) (place_judged v)) k (subst (λ (l : List ℕ). JudgesIn l table outline (number_judged v) (place_judged v)) e j)))
+
+-- under an objection the source is handed back
+objected : (source outline : List ℕ) (o : Objection) → written_under house source outline (placed_in (text_of source)) (number_judged (Err o)) ≡ source
+objected source outline Misfit = refl
+objected source outline (Remarked place) = refl
+objected source outline Empty = refl
+objected source outline (Deep place) = refl
+
+pub objected_given : (source outline : List ℕ) {old new : List ℕ} {r : Formatted} (o : Objection) → Given (number_judged (Err o)) (place_judged (Err o)) source old r new
+    → Given (number_judged (Err o)) (place_judged (Err o)) (written_under house source outline (placed_in (text_of source)) (number_judged (Err o))) old r new
+objected_given source outline {old} {new} {r} o g = subst (λ (bytes : List ℕ). Given (number_judged (Err o)) (place_judged (Err o)) bytes old r new) (sym (objected source outline o)) g
 
 -- The whole call -----------------------------------------------------------------------------------------------------------
 
@@ -118,7 +131,7 @@ module _ (source outline table old : List ℕ) where
       by true e = record { answers = simp e; clean = simp e }
       by false e = absurd (n (simp e))
 
-  module _ (T : List ℕ) {x : Tokenized} (y : Tokenized) (q : x ≡ y) (t : Tokenises source table (number_tokens x) (value x) T) where
+  module _ (T : List ℕ) {x : Result ℕ NotTokenized} (y : Result ℕ NotTokenized) (q : x ≡ y) (t : Tokenises source table (number_tokens x) (value x) T) where
     kept : Tokenises source table (number_tokens y) (value y) T
     kept = same-call source table T y q t
 
@@ -161,8 +174,8 @@ module _ (source outline table old : List ℕ) where
       cut_text = (cut source table T y q t o).is ∙ ap cut_into (same_places source table T y q t o)
 
       -- the part of the table that was filled
-      pub part_ready : (source_of source ≡ cut_into (placed_in (text_of source))) × (take (3 * value y - 0) (drop 0 T) ≡ words_of (placed_in (text_of source)))
-      part_ready = (cut_text, part_filled source table T y q t o)
+      pub part_ready : (source_of source ≡ cut_into (placed_in (text_of source))) × (take (3 * value y) T ≡ words_of (placed_in (text_of source)))
+      part_ready = (cut_text, let n : 3 * value y ≡ 3 * value y - 0 = omega arith in ap (λ (k : ℕ). take k T) n ∙ part_filled source table T y q t o)
 
       -- 4, 2, 3, 5, else 0
       pub settled_answered : {r : Formatted} {new : List ℕ} → Settled source outline old r new → Answered house source outline table old (number r) (place r) (written r) T new

@@ -1,74 +1,78 @@
 -- The numbers of document 01 for each answer, what stands beside them, and that they tell the answers apart.
-use Rattle.std.specs.Prelude.{◌≡◌, refl, List, ℕ, eqb, if◌then◌else◌}
+use Rattle.std.specs.Prelude.{◌≡◌, refl, List, ℕ, Result, Ok, Err, eqb, if◌then◌else◌}
 use Rattle.std.proofs.Common.{sym, ◌∙◌}
 use Rattle.dogwood_rules.specs.Layout.{house}
 use Rattle.dogwood_rules.specs.Promises.{Answered, answered-only}
-use Rattle.dogwood_formatter.specs.declared.format.Formatted.{Formatted}
-use Rattle.dogwood_formatter.specs.declared.format.Formatted.TheVariants.{Done, Unended, Remarked, Empty, Misfit, Deep, TooLong, NotUtf8, Small, NoRoom}
+use Rattle.dogwood_outline.specs.declared.judging.Objection.TheVariants.{Misfit, Remarked, Empty, Deep}
+use Rattle.dogwood_outline.specs.Verdicts as Verdicts
+use Rattle.dogwood_formatter.specs.declared.format.Reason.{Reason}
+use Rattle.dogwood_formatter.specs.declared.format.Reason.TheVariants.{Unended, Objected}
+use Rattle.dogwood_formatter.specs.declared.format.NotFormatted.{NotFormatted}
+use Rattle.dogwood_formatter.specs.declared.format.NotFormatted.TheVariants.{HandedBack, TooLong, NotUtf8, Small, NoRoom}
+
+-- how many bytes a layout has, or why there is none
+abbrev pub Formatted : Type 0
+Formatted = Result ℕ NotFormatted
+
+abbrev pub reason_number : Reason → ℕ
+reason_number (Unended p) = 1
+reason_number (Objected o) = Verdicts.number (Err o)
+
+abbrev pub reason_place : Reason → ℕ
+reason_place (Unended p) = p
+reason_place (Objected o) = Verdicts.place (Err o)
 
 abbrev pub number : Formatted → ℕ
-number (Done n) = 0
-number (Unended p n) = 1
-number (Remarked p n) = 2
-number (Empty n) = 3
-number (Misfit n) = 4
-number (Deep p n) = 5
-number TooLong = 11
-number (NotUtf8 p) = 12
-number (Small n) = 13
-number (NoRoom n) = 15
+number (Ok n) = 0
+number (Err (HandedBack r n)) = reason_number r
+number (Err TooLong) = 11
+number (Err (NotUtf8 p)) = 12
+number (Err (Small n)) = 13
+number (Err (NoRoom n)) = 15
 
 -- the place, the tokens needed, or the bytes needed
 abbrev pub place : Formatted → ℕ
-place (Done n) = 0
-place (Unended p n) = p
-place (Remarked p n) = p
-place (Empty n) = 0
-place (Misfit n) = 0
-place (Deep p n) = p
-place TooLong = 0
-place (NotUtf8 p) = p
-place (Small n) = n
-place (NoRoom n) = n
+place (Ok n) = 0
+place (Err (HandedBack r n)) = reason_place r
+place (Err TooLong) = 0
+place (Err (NotUtf8 p)) = p
+place (Err (Small n)) = n
+place (Err (NoRoom n)) = n
 
 -- how many bytes were written
 abbrev pub length : Formatted → ℕ
-length (Done n) = n
-length (Unended p n) = n
-length (Remarked p n) = n
-length (Empty n) = n
-length (Misfit n) = n
-length (Deep p n) = n
-length TooLong = 0
-length (NotUtf8 p) = 0
-length (Small n) = 0
-length (NoRoom n) = 0
+length (Ok n) = n
+length (Err (HandedBack r n)) = n
+length (Err TooLong) = 0
+length (Err (NotUtf8 p)) = 0
+length (Err (Small n)) = 0
+length (Err (NoRoom n)) = 0
 
 -- the answer again
 abbrev answer_of : ℕ → ℕ → ℕ → Formatted
 answer_of n p l =
-    if eqb n 0 then Done l
-    else if eqb n 1 then Unended p l
-    else if eqb n 2 then Remarked p l
-    else if eqb n 3 then Empty l
-    else if eqb n 4 then Misfit l
-    else if eqb n 5 then Deep p l
-    else if eqb n 11 then TooLong
-    else if eqb n 12 then NotUtf8 p
-    else if eqb n 13 then Small p
-    else NoRoom p
+    if eqb n 0 then Ok l
+    else if eqb n 1 then Err (HandedBack (Unended p) l)
+    else if eqb n 2 then Err (HandedBack (Objected (Remarked p)) l)
+    else if eqb n 3 then Err (HandedBack (Objected Empty) l)
+    else if eqb n 4 then Err (HandedBack (Objected Misfit) l)
+    else if eqb n 5 then Err (HandedBack (Objected (Deep p)) l)
+    else if eqb n 11 then Err TooLong
+    else if eqb n 12 then Err (NotUtf8 p)
+    else if eqb n 13 then Err (Small p)
+    else Err (NoRoom p)
 
 again : (a : Formatted) → answer_of (number a) (place a) (length a) ≡ a
-again (Done n) = refl
-again (Unended p n) = refl
-again (Remarked p n) = refl
-again (Empty n) = refl
-again (Misfit n) = refl
-again (Deep p n) = refl
-again TooLong = refl
-again (NotUtf8 p) = refl
-again (Small n) = refl
-again (NoRoom n) = refl
+again (Ok n) = refl
+again (Err (HandedBack (Unended p) n)) = refl
+again (Err (HandedBack (Objected (Remarked p)) n)) = refl
+again (Err (HandedBack (Objected Empty) n)) = refl
+again (Err (HandedBack (Objected Misfit) n)) = refl
+again (Err (HandedBack (Objected (Deep p)) n)) = refl
+again (Err TooLong) = refl
+again (Err (NotUtf8 p)) = refl
+again (Err (Small n)) = refl
+again (Err (NoRoom n)) = refl
 
 -- no second answer, no second table and no second output keeps the promise of `format_policies`
 pub format-policies-only :

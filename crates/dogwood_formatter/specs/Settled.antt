@@ -6,8 +6,7 @@ use Rattle.dogwood_rules.specs.Promises.{over}
 use Rattle.dogwood_outline.specs.Pass.{placed_in}
 use Rattle.dogwood_outline.specs.Verdicts.{Judges}
 use Rattle.dogwood_outline.proofs.Answers.{written}
-use Rattle.dogwood_formatter.specs.declared.format.Formatted.{Formatted}
-use Rattle.dogwood_formatter.specs.Numbers.{number, place, length}
+use Rattle.dogwood_formatter.specs.Numbers.{Formatted, number, place, length}
 
 -- some bytes are offered to old, which is now new, under a number and a place; r says so, or, for want of room, 15
 pub record Given (n p : ℕ) (bytes old : List ℕ) (r : Formatted) (new : List ℕ) : Type 0 where

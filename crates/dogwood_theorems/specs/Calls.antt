@@ -4,8 +4,7 @@ use Rattle.dogwood_rules.specs.Utf8.{marked}
 use Rattle.dogwood_rules.specs.Layout.{house}
 use Rattle.dogwood_rules.specs.Promises.{Answered}
 use Rattle.dogwood_rules.specs.Claims.{nonblank, tokens_in, Preserved, Kept}
-use Rattle.dogwood_formatter.specs.declared.format.Formatted.{Formatted}
-use Rattle.dogwood_formatter.specs.Numbers.{number, place, length}
+use Rattle.dogwood_formatter.specs.Numbers.{Formatted, number, place, length}
 
 -- a call that kept the promise of `format_policies`
 pub record Call : Type 0 where

@@ -1,56 +1,56 @@
 // Files that are read. No contract can say what a file gives; of a reader whose bytes are known, it says which of them were taken.
-ghost use Rattle.std.specs.Prelude.{◌≡◌, IfSome, IsTrue, length, take};
+ghost use Rattle.std.specs.Prelude.{◌≡◌, ◌≤◌, IfSome, IsTrue, MatchResult, length, take};
 ghost use Rattle.std.specs.Io.KnownBytes.{Consumes, IsAtEnd};
-ghost use Rattle.files.specs.Held.{IsPrefixLen, held};
+ghost use Rattle.files.specs.Held.{Filled, IsPrefixLen, held};
 
 use std::fs::File;
 use std::io::Read;
 use std::rt::{Env, Files};
 use std::str;
 
-// n, where that many bytes are there, else 0. It takes buf and not its length so that its promise can speak of buf.
-pub fn within(n: usize, buf: &[u8]) -> usize
-    ensures prefix_len { IsPrefixLen result buf.now }
-    ensures value { result ≡ held n (length buf.now) }
+// The first n bytes, or none where there are fewer.
+pub fn within(n: usize, buf: &[u8]) -> &[u8]
+    ensures prefix_len { IsPrefixLen (length result.now) buf.now }
+    ensures value { result.now ≡ take (held n (length buf.now)) buf.now }
 {
-    if buf.len() < n {
-        return 0;
-    }
-    n
+    buf.get(..n).unwrap_or(&[])
 }
 
-// How a reading into a buffer went: how many bytes now stand at its start, and whether a read failed.
-#[derive(Clone, Copy)]
-struct Filled {
-    len: usize,
-    failed: bool,
-}
-
-// Reads until buf is full, the input ends or a read fails.
-fn fill<R: Read>(input: &mut R, buf: &mut [u8]) -> Filled
-    ensures prefix_len { IsPrefixLen result.len buf.new }
-    ensures taken { Consumes (R.remaining input.old) (R.remaining input.new) (take result.len buf.new) }
+// Reads until buf is full, the input ends or a read fails, and answers how many bytes now stand at its start, in an error where a read failed.
+fn fill<R: Read>(input: &mut R, buf: &mut [u8]) -> Result<usize, usize>
+    ensures { MatchResult result (Filled (R.remaining input.old) (R.remaining input.new) buf.new) (Filled (R.remaining input.old) (R.remaining input.new) buf.new) }
 {
     let mut len = 0;
     while len < buf.len() {
         match input.read(&mut buf[len..]) {
             Ok(0) => break,
             Ok(n) => len += n,
-            Err(_) => return Filled { len, failed: true },
+            Err(_) => return Err(len),
         }
     }
-    Filled { len, failed: false }
+    Ok(len)
 }
 
-// Reads n bytes to the start of buf, or fewer where the input ends or a read fails, and answers how many; 0 where buf is too short.
-pub fn read_part<R: Read>(input: &mut R, buf: &mut [u8], n: usize) -> usize
+// Fills buf, or less of it where the input ends or a read fails, and answers how many bytes now stand at its start.
+pub fn read_part<R: Read>(input: &mut R, buf: &mut [u8]) -> usize
     ensures prefix_len { IsPrefixLen result buf.new }
     ensures taken { Consumes (R.remaining input.old) (R.remaining input.new) (take result buf.new) }
 {
-    if buf.len() < n {
-        return 0;
+    match fill(input, buf) {
+        Ok(len) | Err(len) => len,
     }
-    fill(input, &mut buf[..n]).len
+}
+
+// The next n bytes, or fewer where the input ends or a read fails, by way of a buffer. There are none where it is too short for n.
+pub fn next_part<'a, R: Read>(input: &mut R, n: usize, buf: &'a mut [u8]) -> &'a [u8]
+    ensures at_most { length result.now ≤ n }
+    ensures taken { Consumes (R.remaining input.old) (R.remaining input.new) result.now }
+{
+    if buf.len() < n {
+        return &[];
+    }
+    let len = read_part(input, &mut buf[..n]);
+    &buf[..len]
 }
 
 // Whether the input has ended here. A read that fails, as of a folder, is no end.
@@ -69,11 +69,8 @@ pub fn read_whole<R: Read>(input: &mut R, buf: &mut [u8]) -> Option<usize>
     ensures prefix_len { IfSome result (λ n. IsPrefixLen n buf.new) }
     ensures whole { IfSome result (λ n. IfSome (R.remaining input.old) (λ bytes. take n buf.new ≡ bytes)) }
 {
-    let filled = fill(input, buf);
-    if filled.failed || !ended(input) {
-        return None;
-    }
-    Some(filled.len)
+    let len = fill(input, buf).ok()?;
+    ended(input).then_some(len)
 }
 
 // Opens the file that an argument names. There is none where the file cannot be opened or its name is no text, nor where there is no such argument.

@@ -78,9 +78,9 @@ pub fn put_line<W: Write>(out: &mut W, words: &[u32]) -> io::Result<()>
     ensures ok { OnOk result (Appends (W.contents out.old) (W.contents out.new) (line_of words.now)) }
     ensures err { OnErr result (AppendsPart (W.contents out.old) (W.contents out.new) (line_of words.now)) }
 {
-    if 0 < words.len() {
-        put_number(out, u64::from(words[0]))?;
-        put_words(out, &words[1..])?;
+    if let [first, rest @ ..] = words {
+        put_number(out, u64::from(*first))?;
+        put_words(out, rest)?;
     }
     put_text(out, b"\n")
 }

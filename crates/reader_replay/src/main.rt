@@ -3,34 +3,33 @@
 // first; then the source.
 #![tactic(auto)]
 
-use dogwood_reader::Reading;
-use files::{open_arg, put_number, put_pair, put_text, read_part, word};
+use dogwood_reader::{Reading, Refusal, nth_reading};
+use files::{next_part, put_number, put_pair, put_text, read_words, replay};
 use std::io;
 use std::io::{Read, Write};
 
 // Writes a reading, and answers whether it is a token.
-fn put_reading<W: Write>(r: Reading, out: &mut W) -> io::Result<bool> {
-    let mut token = false;
-    match r {
-        Reading::Token(kind, start, end) => {
-            put_pair(out, kind, start)?;
+fn put_reading<W: Write>(reading: Reading, out: &mut W) -> io::Result<bool> {
+    match reading {
+        Reading::Token(token) => {
+            put_pair(out, u32::from(token.kind), token.start)?;
             put_text(out, b" ")?;
-            put_number(out, end as u64)?;
-            token = true;
+            put_number(out, token.end as u64)?;
         }
         Reading::Ended => put_text(out, b"end")?,
         Reading::NoEnd(place) => put_pair(out, 1, place)?,
-        Reading::Refused(number, place) => put_pair(out, number, place)?,
+        Reading::Refused(Refusal::TooLong) => put_pair(out, 11, 0)?,
+        Reading::Refused(Refusal::NotUtf8(place)) => put_pair(out, 12, place)?,
     }
     put_text(out, b";")?;
-    Ok(token)
+    Ok(matches!(reading, Reading::Token(..)))
 }
 
 // A text has no more tokens than bytes, so the readings as many as the bytes, and one more, come to one that is no token.
-fn run<W: Write>(source: &[u8], out: &mut W) -> io::Result<()> {
+fn put_readings<W: Write>(source: &[u8], out: &mut W) -> io::Result<()> {
     for n in 0..=source.len() {
-        if !put_reading(dogwood_reader::nth_reading(source, n), out)? {
-            put_reading(dogwood_reader::nth_reading(source, n + 1), out)?;
+        if !put_reading(nth_reading(source, n), out)? {
+            put_reading(nth_reading(source, n + 1), out)?;
             return put_text(out, b"\n");
         }
     }
@@ -38,31 +37,17 @@ fn run<W: Write>(source: &[u8], out: &mut W) -> io::Result<()> {
 }
 
 // Reads one record and runs it; answers false where there is none.
-fn one<R: Read, W: Write>(input: &mut R, out: &mut W) -> io::Result<bool> {
-    let mut head = [0u8; 8];
-    if read_part(input, &mut head, 8) != 8 {
+fn run<R: Read, W: Write>(input: &mut R, out: &mut W) -> io::Result<bool> {
+    let Some(head) = read_words::<2, _>(input) else {
         return Ok(false);
-    }
-    let size = word(&head, 0) as usize;
-    let mut source = [0u8; 4096];
-    let n = read_part(input, &mut source, size);
-    run(&source[..n], out)?;
+    };
+    let [size, _] = head;
+    let mut bytes = [0; 4096];
+    let source = next_part(input, size as usize, &mut bytes);
+    put_readings(source, out)?;
     Ok(true)
 }
 
-fn all<R: Read, W: Write>(input: &mut R, out: &mut W) -> io::Result<()> {
-    for _ in 0..u64::MAX {
-        if !one(input, out)? {
-            break;
-        }
-    }
-    Ok(())
-}
-
 fn main(rt: HostRuntime) -> io::Result<()> {
-    let mut out = io::writer(&rt);
-    match open_arg(&rt, 1) {
-        Some(mut input) => all(&mut input, &mut out),
-        None => put_text(&mut out, b"no records\n"),
-    }
+    replay(&rt, &mut io::writer(&rt), run)
 }

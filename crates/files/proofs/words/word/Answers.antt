@@ -14,4 +14,4 @@ returns-then-s-at c =
 
 pub returns : goal.returns
 unfolding word_at
-returns c = omega (arith, c.byte.ensures.0, c.byte-2.ensures.0, c.byte-3.ensures.0, c.byte-4.ensures.0)
+returns c = omega (arith, c.byte.ensures, c.byte-2.ensures, c.byte-3.ensures, c.byte-4.ensures)

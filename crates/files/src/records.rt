@@ -1,0 +1,54 @@
+// Files of records: a record begins with words that say how much of what follows.
+ghost use Rattle.std.specs.Prelude.{MatchOption};
+ghost use Rattle.files.specs.Word.{BeginsWith, EndsBefore};
+
+use crate::input::{open_arg, read_part};
+use crate::output::put_text;
+use std::io;
+use std::io::{Read, Write};
+use std::rt::{Env, Files};
+
+// The words that stand next in the input, low byte first. There are none where it ends before them or a read fails.
+pub fn read_words<const N: usize, R: Read>(input: &mut R) -> Option<[u32; N]>
+    ensures { MatchOption result (EndsBefore (R.remaining input.old) (R.remaining input.new) N) (BeginsWith (R.remaining input.old) (R.remaining input.new) N) }
+{
+    let mut words = [0; N];
+    for word in &mut words {
+        let mut bytes = [0; 4];
+        if read_part(input, &mut bytes) < 4 {
+            return None;
+        }
+        *word = u32::from_le_bytes(bytes);
+    }
+    Some(words)
+}
+
+// Takes a step at each record of an input until one says that it is the last.
+fn run_each<R: Read, W: Write, F: FnMut(&mut R, &mut W) -> io::Result<bool>>(
+    input: &mut R,
+    out: &mut W,
+    mut step: F,
+) -> io::Result<()>
+    requires { F.IsAlwaysCallable step }
+{
+    for _ in 0..u64::MAX {
+        if !step(input, out)? {
+            break;
+        }
+    }
+    Ok(())
+}
+
+// Runs each record of the file that the first argument names, by a step that takes one off the input and answers whether there may be more.
+pub fn replay<P: Env + Files, W: Write, F: FnMut(&mut P::File, &mut W) -> io::Result<bool>>(
+    rt: &P,
+    out: &mut W,
+    step: F,
+) -> io::Result<()>
+    requires { F.IsAlwaysCallable step }
+{
+    match open_arg(rt, 1) {
+        Some(mut input) => run_each(&mut input, out, step),
+        None => put_text(out, b"no records\n"),
+    }
+}
