@@ -7,7 +7,7 @@ use lib.ListN.{length, take, drop, length-take, length-drop}
 use lib.Seq.{take-nil, drop-nil, drop-drop}
 use Rattle.dogwood_rules.specs.Token.{row_size}
 use Rattle.dogwood_rows.specs.declared.cursor.Row.{Row}
-use Rattle.dogwood_rows.specs.Rows.{rows_of, rows_at, end_of, between, inside}
+use Rattle.dogwood_rows.specs.Rows.{rows_of, rows_at, end_of, between}
 
 -- the words of the rows, and what is left over
 pub record Counted (ws : List ℕ) : Type 0 where
@@ -58,11 +58,3 @@ module _ (ws : List ℕ) (i : ℕ) {b : ℕ} (n : ℕ) (e : b ≡ i + row_size *
 
 pub length-between : (ws : List ℕ) (i b : ℕ) → b ≤ length ws → length (between ws i b) ≡ b - i
 length-between ws i b h = let t = length-take (b - i) (drop i ws) in let d = length-drop i ws in omega arith
-
-pub inside_none : (ws : List ℕ) → end_of ws < row_size → between ws 0 0 ≡ inside ws
-unfolding inside
-inside_none ws h = let q : 0 ≡ end_of ws - row_size - row_size = omega arith in ap (λ (m : ℕ). take m (drop row_size ws)) q
-
-pub inside_some : (ws : List ℕ) {e : ℕ} → e ≡ end_of ws → between ws row_size (e - row_size) ≡ inside ws
-unfolding inside
-inside_some ws q = ap (λ (m : ℕ). between ws row_size (m - row_size)) q

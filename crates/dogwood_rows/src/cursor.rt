@@ -50,8 +50,5 @@ pub fn end(table: &[u32]) -> usize
 pub fn count(from: usize, to: usize) -> usize
     ensures { CountIs from to result }
 {
-    if to < from {
-        return 0;
-    }
-    (to - from) / WORDS
+    to.saturating_sub(from) / WORDS
 }
