@@ -1,5 +1,5 @@
 -- The comments of a table, written one after the other.
-use Rattle.std.specs.Prelude.{if◌then◌else◌}
+use Rattle.std.specs.Prelude.{if◌then◌else◌, map}
 use mathlib.Core.Path.{◌≡◌, refl, sym, ◌∙◌, ap}
 use mathlib.Core.Bool.{Bool, true, false}
 use mathlib.Core.List.{List, [], ◌∷◌, ◌++◌, append-nil, append_assoc}
@@ -16,10 +16,10 @@ use Rattle.dogwood_rules.specs.Utf8.{encode, decode, byte_length}
 use Rattle.dogwood_rules.specs.Token.{Token, Whitespace, Comment, String, Identifier, Number, Symbol, Other, white}
 use Rattle.dogwood_rules.specs.Tree.{comment, is_comment}
 use Rattle.dogwood_layout.specs.declared.Entry.{Entry}
-use Rattle.dogwood_layout.specs.View.{entry_at, kind_of, bytes_at, token_of, tokens, Held, Holds}
+use Rattle.dogwood_layout.specs.View.{kind_of, bytes_at, token_of, tokens, rows, Held, Holds}
 use Rattle.dogwood_layout.specs.Feeds.{behind, due_remarks, remarks_due, Due}
 use Rattle.dogwood_layout.proofs.Bytes.{encode-append}
-use Rattle.dogwood_layout.proofs.Tables.{tokens_at_lem, holds_at, entry_there, no_words}
+use Rattle.dogwood_layout.proofs.Tables.{AllHeld, rows_held, rows-tokens}
 use Rattle.dogwood_layout.proofs.Kept.{kept_bytes, kept_fits, spelt_whole}
 use Rattle.dogwood_layout.proofs.Dues.{encode_feeds, wrote_more, remarks_more, remarks-later}
 
@@ -93,47 +93,44 @@ module _ {text : List ℕ} {e : Entry} (h : Held text e) {bs : List ℕ} (b : bs
 
 -- The loop ---------------------------------------------------------------------------------------------------------------
 
-pub record RemarksAt (text ws : List ℕ) (feeds : ℕ) (old new : List ℕ) (n due i : ℕ) : Type 0 where
-  pub fits : i ≤ length ws
-  pub holds : Holds text (drop i ws)
+pub record RemarksAt (text ws : List ℕ) (feeds : ℕ) (old new : List ℕ) (n due : ℕ) (es : List Entry) : Type 0 where
+  pub held : AllHeld text es
   pub done : List ℕ
   pub wrote : Wrote old (encode done) n new
-  pub left : done ++ due_remarks due (tokens text (drop i ws)) ≡ due_remarks feeds (tokens text ws)
-  pub later : remarks_due due (tokens text (drop i ws)) ≡ remarks_due feeds (tokens text ws)
+  pub left : done ++ due_remarks due (map (token_of text) es) ≡ due_remarks feeds (tokens text ws)
+  pub later : remarks_due due (map (token_of text) es) ≡ remarks_due feeds (tokens text ws)
 
 module _ (text ws : List ℕ) (feeds : ℕ) where
-  pub remarks_start : (old : List ℕ) → Holds text ws → RemarksAt text ws feeds old old 0 feeds 0
+  pub remarks_start : (old : List ℕ) → Holds text ws → RemarksAt text ws feeds old old 0 feeds (rows ws)
   unfolding encode
-  remarks_start old h = record { fits = omega arith; holds = h; done = []; wrote = wrote-nil old; left = refl; later = refl }
+  remarks_start old h =
+      record {
+        held = rows_held text ws h;
+        done = [];
+        wrote = wrote-nil old;
+        left = ap (due_remarks feeds) (rows-tokens text ws);
+        later = ap (remarks_due feeds) (rows-tokens text ws);
+      }
 
-  pub remarks_turn : {old xs ys : List ℕ} {n due i at r next s : ℕ} {e : Entry} → RemarksAt text ws feeds old xs n due i → i < length ws → e ≡ entry_at ws i
+  pub remarks_turn : {old xs ys : List ℕ} {n due at r next s : ℕ} {e : Entry} {es : List Entry} → RemarksAt text ws feeds old xs n due (e ∷ es)
       → at ≡ min n (length xs) → length xs ≤ cap
       → Due (due_remarks due (token_of text e ∷ [])) (remarks_due due (token_of text e ∷ [])) (take (length xs - at) (drop at xs)) r next ys → s ≡ min (n + r) cap
-      → RemarksAt text ws feeds old (put_mid at (length xs - at) xs ys) s next (i + 3)
-  remarks_turn {due = due} {i = i} {next = next} {e = e} a h q p k w z =
-      let there = entry_there text ws i a.holds h in
+      → RemarksAt text ws feeds old (put_mid at (length xs - at) xs ys) s next es
+  remarks_turn {due = due} {next = next} {e = e} {es = es} a p k w z =
       let t = token_of text e in
-      let rest = tokens text (drop (i + 3) ws) in
-      let all : tokens text (drop i ws) ≡ t ∷ rest = tokens_at_lem text ws i there q in
+      let rest = map (token_of text) es in
       record {
-        fits = omega arith;
-        holds = (holds_at text ws i there a.holds).1;
+        held = a.held.1;
         done = a.done ++ due_remarks due (t ∷ []);
         wrote = wrote_more a.done (due_remarks due (t ∷ [])) a.wrote p k w.wrote z;
         left =
             append_assoc a.done (due_remarks due (t ∷ [])) (due_remarks next rest)
             ∙ ap (λ (m : ℕ). a.done ++ (due_remarks due (t ∷ []) ++ due_remarks m rest)) w.due
             ∙ ap (λ (l : List ℕ). a.done ++ l) (sym (remarks_more due t rest))
-            ∙ ap (λ (ts : List Token). a.done ++ due_remarks due ts) (sym all)
             ∙ a.left;
-        later = ap (λ (m : ℕ). remarks_due m rest) w.due ∙ sym (remarks-later due t rest) ∙ ap (remarks_due due) (sym all) ∙ a.later;
+        later = ap (λ (m : ℕ). remarks_due m rest) w.due ∙ sym (remarks-later due t rest) ∙ a.later;
       }
 
-  pub remarks_end : {old xs : List ℕ} {n due i : ℕ} → RemarksAt text ws feeds old xs n due i → length ws ≤ i → Due (due_remarks feeds (tokens text ws)) (remarks_due feeds (tokens text ws)) old n due xs
+  pub remarks_end : {old xs : List ℕ} {n due : ℕ} → RemarksAt text ws feeds old xs n due [] → Due (due_remarks feeds (tokens text ws)) (remarks_due feeds (tokens text ws)) old n due xs
   unfolding due_remarks remarks_due
-  remarks_end {due = due} {i = i} a h =
-      let none = no_words text ws i h in
-      record {
-        wrote = wrote-same (ap encode (sym (append-nil a.done) ∙ ap (λ (ts : List Token). a.done ++ due_remarks due ts) (sym none) ∙ a.left)) a.wrote;
-        due = ap (remarks_due due) (sym none) ∙ a.later;
-      }
+  remarks_end a = record { wrote = wrote-same (ap encode (sym (append-nil a.done) ∙ a.left)) a.wrote; due = a.later }

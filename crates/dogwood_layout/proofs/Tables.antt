@@ -1,5 +1,5 @@
 -- Laws of the view of a table: its parts, and what an entry's token says.
-use Rattle.std.specs.Prelude.{if◌then◌else◌}
+use Rattle.std.specs.Prelude.{if◌then◌else◌, map}
 use mathlib.Core.Path.{◌≡◌, refl, sym, ◌∙◌, ap, subst}
 use mathlib.Core.Bool.{Bool, true, false, ◌&&◌, ◌||◌}
 use mathlib.Core.List.{List, [], ◌∷◌}
@@ -15,7 +15,7 @@ use Rattle.dogwood_rules.specs.Utf8.{encode}
 use Rattle.dogwood_rules.specs.Token.{Token, Whitespace, Comment, String, Identifier, Number, Symbol, Other}
 use Rattle.dogwood_rules.specs.Tree.{blank, comma, and_or, opener, closer, is_whitespace, shown}
 use Rattle.dogwood_layout.specs.declared.Entry.{Entry}
-use Rattle.dogwood_layout.specs.View.{entry_at, kind_of, bytes_at, token_of, tokens, Held, Holds, Ready}
+use Rattle.dogwood_layout.specs.View.{entry_at, kind_of, bytes_at, token_of, tokens, rows, Held, Holds, Ready}
 use Rattle.dogwood_layout.proofs.Bytes.{Ascii, same-encode, encode_longer}
 
 -- The table ---------------------------------------------------------------------------------------------------
@@ -211,11 +211,50 @@ no_words text ws i h = rw (drop_of_length-le ws {i = i} h) refl
 pub held_at : (text ws : List ℕ) (i : ℕ) → Holds text (drop i ws) → i < length ws → {e : Entry} → e ≡ entry_at ws i → Held text e
 held_at text ws i h k q = subst (Held text) (sym q) (holds_at text ws i (entry_there text ws i h k) h).0
 
--- Parts, as they are lent ---------------------------------------------------------------------------------------
-
--- the words from i on
+-- the words from i on, as they are lent
 pub part_rest : (ws : List ℕ) (i : ℕ) → take (length ws - i) (drop i ws) ≡ drop i ws
 part_rest ws i = take_all (length ws - i) (drop i ws) (simp length-drop (omega arith))
+
+-- The entries, one after another ------------------------------------------------------------------------------
+
+pub rows_bound : (ws : List ℕ) → 3 * length (rows ws) ≤ length ws
+unfolding rows
+rows_bound [] = omega arith
+rows_bound (k ∷ []) = omega arith
+rows_bound (k ∷ s ∷ []) = omega arith
+rows_bound (k ∷ s ∷ e ∷ ws) = let b = rows_bound ws in omega arith
+
+pub rows_short : (ws : List ℕ) → length ws < 3 → rows ws ≡ []
+unfolding rows
+rows_short [] h = refl
+rows_short (k ∷ []) h = refl
+rows_short (k ∷ s ∷ []) h = refl
+rows_short (k ∷ s ∷ e ∷ ws) h = absurd (omega arith)
+
+pub rows_first : (ws : List ℕ) (i : ℕ) → i + 2 < length ws → rows (drop i ws) ≡ entry_at ws i ∷ rows (drop (i + 3) ws)
+unfolding rows
+rows_first ws i h = ap rows (words_at ws i h)
+
+-- the text holds each
+abbrev pub AllHeld : List ℕ → List Entry → Type 0
+AllHeld text [] = Unit {0}
+AllHeld text (e ∷ es) = Held text e × AllHeld text es
+
+pub rows_held : (text ws : List ℕ) → Holds text ws → AllHeld text (rows ws)
+unfolding Holds rows
+rows_held text [] h = tt
+rows_held text (k ∷ []) h = tt
+rows_held text (k ∷ s ∷ []) h = tt
+rows_held text (k ∷ s ∷ e ∷ ws) h = (h.0, rows_held text ws h.1)
+
+pub rows-tokens : (text ws : List ℕ) → map (token_of text) (rows ws) ≡ tokens text ws
+unfolding rows tokens
+rows-tokens text [] = refl
+rows-tokens text (k ∷ []) = refl
+rows-tokens text (k ∷ s ∷ []) = refl
+rows-tokens text (k ∷ s ∷ e ∷ ws) = ap (λ (l : List Token). token_of text (record { kind = k; start = s; end = e }) ∷ l) (rows-tokens text ws)
+
+-- Parts, as they are lent ---------------------------------------------------------------------------------------
 
 pub ready_rest : (text ws : List ℕ) (i : ℕ) → Ready text ws → Holds text (drop i ws) → Ready text (take (length ws - i) (drop i ws))
 ready_rest text ws i r h =

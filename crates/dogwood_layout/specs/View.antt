@@ -32,6 +32,13 @@ tokens text (k ∷ []) = []
 tokens text (k ∷ s ∷ []) = []
 tokens text (k ∷ s ∷ e ∷ ws) = token_of text (record { kind = k; start = s; end = e }) ∷ tokens text ws
 
+-- the entries of a table
+unfoldable pub rows : List ℕ → List Entry
+rows [] = []
+rows (k ∷ []) = []
+rows (k ∷ s ∷ []) = []
+rows (k ∷ s ∷ e ∷ ws) = record { kind = k; start = s; end = e } ∷ rows ws
+
 -- an entry lies in the text, and its token spells the bytes there
 pub record Held (text : List ℕ) (e : Entry) : Type 0 where
   pub ordered : e.start ≤ e.end

@@ -9,7 +9,7 @@ ghost use Rattle.dogwood_layout.specs.Feeds.{due_remarks, remarks_due, Due};
 use dogwood_layout::{Entry, Written};
 use dogwood_letters::is_space;
 use dogwood_rows::Kind;
-use dogwood_runs::{Run, entry_at};
+use dogwood_runs::{Entries, Run};
 use pen::{add, clip, put_all, put_copies};
 use utf8::{Char, decode};
 
@@ -66,13 +66,11 @@ pub fn put_remarks(out: &mut [u8], run: Run, feeds: usize) -> Written
 {
     let mut n: usize = 0;
     let mut due = feeds;
-    let mut i: usize = 0;
-    while i < run.table.len() {
+    for e in Entries::of(run.table) {
         let at = clip(n, out.len());
-        let remark = put_remark(&mut out[at..], run.text, entry_at(run.table, i), due);
+        let remark = put_remark(&mut out[at..], run.text, e, due);
         n = add(n, remark.count);
         due = remark.feeds;
-        i += 3;
     }
     Written {
         count: n,

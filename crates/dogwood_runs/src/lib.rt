@@ -2,10 +2,12 @@
 // An inner crate: the crates above it have established what its functions ask.
 #![tactic(auto)]
 
+mod entries;
 mod parts;
 mod run;
 mod table;
 
+pub use entries::Entries;
 pub use parts::{Run, Separator};
 pub use run::{filled, item_end, lead, piece_end, split_items, trimmed};
 pub use table::entry_at;

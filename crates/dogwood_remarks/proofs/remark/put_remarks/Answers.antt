@@ -1,35 +1,17 @@
-use mathlib.Core.Path.{refl}
+use mathlib.Core.Path.{subst}
 use native.Mathlib.Omega.{arith}
-use borrow.Author.Rules.{rules}
-use Rattle.pen.proofs.Laws.{wrote-length}
-use Rattle.dogwood_layout.proofs.Tables.{entry_there, held_at}
-use Rattle.dogwood_layout.proofs.Remarked.{remarks_start, remarks_turn, remarks_end}
+use Rattle.dogwood_layout.proofs.Remarked.{RemarksAt, remarks_start, remarks_turn, remarks_end}
 use Rattle.dogwood_remarks.proofs.remark.put_remarks.Goals as goal
 
-pub loop-i-init : goal.loop-i-init
-loop-i-init c = (refl, remarks_start _ _ _ _ c.args.run.ready.holds)
-
-pub entry_at-requires : goal.entry_at-requires
-entry_at-requires c = entry_there _ _ _ c.loop-i.invariant.1.holds c.loop-i-test.true
+pub loop-e-init : goal.loop-e-init
+loop-e-init c = rw (c.into_iter-e-iterator.ensures.into_iter_gives, c.of-e-items.ensures) (remarks_start _ _ _ _ c.args.run.ready.holds)
 
 pub put_remark-remark-requires : goal.put_remark-remark-requires
-put_remark-remark-requires c = held_at _ _ _ c.loop-i.invariant.1.holds c.loop-i-test.true c.entry_at.ensures
+put_remark-remark-requires c = (subst (RemarksAt _ _ _ _ _ _ _) c.in-Some.ensures.steps c.loop-e.invariant).held.0
 
-pub overflow_add-i : goal.overflow_add-i
-overflow_add-i c =
-    let t = entry_there _ _ _ c.loop-i.invariant.1.holds c.loop-i-test.true in
-    let g = c.well_formed in
-    search rules
-
-pub loop-i-smaller : goal.loop-i-smaller
-loop-i-smaller c =
-    let t = c.loop-i-test.true in
-    omega arith
-
-pub loop-i-preserved : goal.loop-i-preserved
-loop-i-preserved c =
-    let g = remarks_turn _ _ _ c.loop-i.invariant.1 c.loop-i-test.true c.entry_at.ensures c.clip-at.ensures.place (omega (arith, c.loop-i.invariant.0, c.well_formed.0.1)) c.put_remark-remark.ensures c.add-n.ensures.sum in
-    (wrote-length g.wrote, g)
+pub loop-e-preserved : goal.loop-e-preserved
+loop-e-preserved c =
+    remarks_turn _ _ _ (subst (RemarksAt _ _ _ _ _ _ _) c.in-Some.ensures.steps c.loop-e.invariant) c.clip-at.ensures.place (omega arith) c.put_remark-remark.ensures c.add-n.ensures.sum
 
 pub returns : goal.returns
-returns c = remarks_end _ _ _ c.loop-i.invariant.1 (omega (arith, c.loop-i-test.false))
+returns c = remarks_end _ _ _ (subst (RemarksAt _ _ _ _ _ _ _) c.in-None.ensures.steps.0 c.loop-e.invariant)
