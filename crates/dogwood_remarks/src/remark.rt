@@ -24,7 +24,7 @@ fn kept(bytes: &[u8]) -> usize
         let b = bytes[i];
         if b < 0x80 {
             i += 1;
-            if !is_space(b as u32) {
+            if !is_space(u32::from(b)) {
                 keep = i;
             }
         } else {
