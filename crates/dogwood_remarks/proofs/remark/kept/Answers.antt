@@ -1,6 +1,7 @@
 use mathlib.Core.Bool.{not}
 use mathlib.Core.Path.{refl, sym, ap, ◌∙◌}
 use native.Mathlib.Omega.{arith}
+use Rattle.dogwood_rules.specs.Token.{white}
 use Rattle.utf8.proofs.Inside.{inside, plain}
 use Rattle.dogwood_layout.proofs.Kept.{kept_start, kept_white, kept_word, kept_fault, kept_end}
 use Rattle.dogwood_remarks.proofs.remark.kept.Goals as goal
@@ -11,11 +12,11 @@ loop-i-init c = kept_start _ c.requires
 
 -- src/remark.rt:28:5
 pub loop-i-preserved-then-not-is_space : goal.loop-i-preserved-then-not-is_space
-loop-i-preserved-then-not-is_space c = kept_word _ c.loop-i.invariant c.loop-i-test.true (plain c.args.bytes.now c.loop-i.i _ c.loop-i-test.true refl c.if-b-lt128.true) c.is_space.ensures (ap not c.if-not-is_space.true)
+loop-i-preserved-then-not-is_space c = kept_word _ c.loop-i.invariant c.loop-i-test.true (plain c.args.bytes.now c.loop-i.i _ c.loop-i-test.true refl c.if-b-lt128.true) (c.is_space.ensures ∙ ap white c.from.ensures) (ap not c.if-not-is_space.true)
 
 -- src/remark.rt:28:5
 pub loop-i-preserved-else-not-is_space : goal.loop-i-preserved-else-not-is_space
-loop-i-preserved-else-not-is_space c = kept_white _ c.loop-i.invariant c.loop-i-test.true (plain c.args.bytes.now c.loop-i.i _ c.loop-i-test.true refl c.if-b-lt128.true) c.is_space.ensures (ap not c.if-not-is_space.false)
+loop-i-preserved-else-not-is_space c = kept_white _ c.loop-i.invariant c.loop-i-test.true (plain c.args.bytes.now c.loop-i.i _ c.loop-i-test.true refl c.if-b-lt128.true) (c.is_space.ensures ∙ ap white c.from.ensures) (ap not c.if-not-is_space.false)
 
 -- src/remark.rt:37:17
 pub returns-in_default : goal.returns-in_default
