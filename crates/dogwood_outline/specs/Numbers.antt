@@ -12,6 +12,9 @@ use Rattle.dogwood_outline.specs.declared.testing.NotFitting.TheVariants.{NotTok
 abbrev pub IsNotTokenized : Refusal → NotFitting → Type 0
 IsNotTokenized e f = f ≡ NotTokenized e
 
+pub not_tokenized_only : (e : Refusal) (f g : NotFitting) → IsNotTokenized e f → IsNotTokenized e g → f ≡ g
+not_tokenized_only e f g p q = p ∙ sym q
+
 abbrev pub number : Result (Unit {0}) NotFitting → ℕ
 number (Ok u) = 0
 number (Err (NotTokenized e)) = refusal_number e
