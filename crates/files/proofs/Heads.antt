@@ -60,9 +60,3 @@ ends_in b begun t l h =
     let k = length-append begun.bytes b in
     let size = begun.whole in
     record { bytes = begun.bytes ++ b; taken = Consumes-trans _ _ _ _ _ begun.taken t; few = omega arith }
-
--- all words are there
-pub begun_all : {old new : Option (List ℕ)} {n m : ℕ} (ws : List ℕ) → BeginsWith old new n (take n ws) → length ws ≡ m → n ≡ m → BeginsWith old new m ws
-begun_all {n} {m} ws begun l e =
-    let all : take n ws ≡ ws = take_all n ws (omega arith) in
-    record { bytes = begun.bytes; taken = begun.taken; whole = omega (arith, begun.whole); are = sym all ∙ begun.are ∙ ap (λ k. words_of begun.bytes k) e }

@@ -2,3 +2,4 @@ pub mod Held
 pub mod Word
 pub mod Letters
 pub mod Written
+pub mod Replays

@@ -1,5 +1,6 @@
 // Files of records: a record begins with words that say how much of what follows.
-ghost use Rattle.std.specs.Prelude.{MatchOption};
+ghost use Rattle.std.specs.Prelude.{IfErr, MatchOption, OnOk};
+ghost use Rattle.files.specs.Replays.{Ended, Failed, Replayed, Stopped};
 ghost use Rattle.files.specs.Word.{BeginsWith, EndsBefore};
 
 use crate::input::{open_arg, read_part};
@@ -24,28 +25,32 @@ pub fn read_words<const N: usize, R: Read>(input: &mut R) -> Option<[u32; N]>
 }
 
 // Takes a step at each record of an input until one says that it is the last.
-fn run_each<R: Read, W: Write, F: FnMut(&mut R, &mut W) -> io::Result<bool>>(
+fn run_each<R: Read, W: Write, F: Fn(&mut R, &mut W) -> io::Result<bool>>(
     input: &mut R,
     out: &mut W,
-    mut step: F,
+    step: F,
 ) -> io::Result<()>
     requires { F.IsAlwaysCallable step }
+    ensures ended { OnOk result (Ended F.Fn step input.old out.old input.new out.new) }
+    ensures failed { IfErr result (λ e. Failed F.Fn step input.old out.old e input.new out.new) }
 {
     for _ in 0..u64::MAX {
         if !step(input, out)? {
-            break;
+            return Ok(());
         }
     }
     Ok(())
 }
 
 // Runs each record of the file that the first argument names, by a step that takes one off the input and answers whether there may be more.
-pub fn replay<P: Env + Files, W: Write, F: FnMut(&mut P::File, &mut W) -> io::Result<bool>>(
+pub fn replay<P: Env + Files, W: Write, F: Fn(&mut P::File, &mut W) -> io::Result<bool>>(
     rt: &P,
     out: &mut W,
     step: F,
 ) -> io::Result<()>
     requires { F.IsAlwaysCallable step }
+    ensures ended { OnOk result (Replayed F.Fn step (W.contents out.old) (W.contents out.new) out.old out.new) }
+    ensures failed { IfErr result (Stopped F.Fn step (W.contents out.old) (W.contents out.new) out.old out.new) }
 {
     match open_arg(rt, 1) {
         Some(mut input) => run_each(&mut input, out, step),

@@ -2,7 +2,7 @@ use Rattle.std.proofs.Common.{rules, arith, refl, ◌∙◌, []}
 use Rattle.std.proofs.Math.ListN.{length-set, length-replicate}
 use Rattle.std.proofs.KnownBytes.{Consumes-nil}
 use Rattle.files.specs.Word.{word_at, words_of}
-use Rattle.files.proofs.Heads.{begins_more, ends_in, begun_all}
+use Rattle.files.proofs.Heads.{begins_more, ends_in}
 use Rattle.files.proofs.records.read_words.Goals as goal
 
 pub loop-word-init : goal.loop-word-init
@@ -21,6 +21,3 @@ loop-word-preserved g c =
 
 pub returns-then-read_part-lt4 : goal.returns-then-read_part-lt4
 returns-then-read_part-lt4 g c = ends_in _ c.loop-word.invariant.begun c.read_part.ensures.taken (omega arith) c.loop-word-test.true
-
-pub returns : goal.returns
-returns g c = begun_all c.loop-word.word-items c.loop-word.invariant.begun c.loop-word.invariant.size (omega arith)
