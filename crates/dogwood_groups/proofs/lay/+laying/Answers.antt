@@ -62,11 +62,6 @@ lay_group-entry_at-requires-2 t c =
     let l = (broken_here _ _ c.args.run.ready c.requires.0.shaped c.requires.2 c.requires.0.tokens).long in
     omega arith
 
-pub lay_group-overflow_mul-page : goal.lay_group-overflow_mul-page
-lay_group-overflow_mul-page t c =
-    let p = (indent_bound _ _ _ c.requires.1) in
-    search rules
-
 pub lay_group-put_closing-requires : goal.lay_group-put_closing-requires
 lay_group-put_closing-requires t c =
     let h = (broken_here _ _ c.args.run.ready c.requires.0.shaped c.requires.2 c.requires.0.tokens) in
@@ -85,26 +80,12 @@ pub lay_item-returns-then-t : goal.lay_item-returns-then-t
 lay_item-returns-then-t t c =
     wrote-same (item-nothing (settings c.args.page) c.args.depth c.args.run.text.now c.args.run.table.now c.requires.0 (trimmed_here _ _ c.args.run.ready c.requires.0 c.trimmed-t.ensures) c.if-t.true) (wrote-nil c.args.out.now)
 
-pub lay_item-overflow_mul-page : goal.lay_item-overflow_mul-page
-lay_item-overflow_mul-page t c =
-    let p = (indent_bound _ _ _ c.requires.1) in
-    search rules
-
 pub lay_item-offset_bounds-run-t : goal.lay_item-offset_bounds-run-t
 lay_item-offset_bounds-run-t t c =
     let h = (trimmed_here _ _ c.args.run.ready c.requires.0 c.trimmed-t.ensures) in
     let f = h.fits in
     let o = h.ordered in
     let s = c.args.run.ready.short in
-    search rules
-
-pub lay_item-slice_bounds-inner-count : goal.lay_item-slice_bounds-inner-count
-lay_item-slice_bounds-inner-count t c =
-    (trimmed_here _ _ c.args.run.ready c.requires.0 c.trimmed-t.ensures).ordered
-
-pub lay_item-slice_bounds-inner-start : goal.lay_item-slice_bounds-inner-start
-lay_item-slice_bounds-inner-start t c =
-    let o = (trimmed_here _ _ c.args.run.ready c.requires.0 c.trimmed-t.ensures).ordered in
     search rules
 
 pub lay_item-slice_bounds-inner-end : goal.lay_item-slice_bounds-inner-end
@@ -135,18 +116,9 @@ lay_item-returns t c =
     wrote-same (item_written (settings c.args.page) c.args.depth _ _ c.requires.0 h (omega arith))
     (wrote_then line c.clip-at.ensures.place room laid c.add.ensures.sum)
 
-pub lay_items-split_items-set-requires : goal.lay_items-split_items-set-requires
-lay_items-split_items-set-requires t c = c.requires.0
-
 pub lay_items-loop-i-init : goal.lay_items-loop-i-init
 lay_items-loop-i-init t c =
     (refl, subst (λ (k : ℕ). LinesAt (settings c.args.page) c.args.depth c.args.run.text.now c.args.run.table.now k c.args.out.now c.args.out.now 0 0) (sym c.split_items-set.ensures) (lines_start _ _ _ _ _ c.args.run.ready c.requires.0))
-
-pub lay_items-slice_bounds-left-count : goal.lay_items-slice_bounds-left-count
-lay_items-slice_bounds-left-count t c = c.loop-i.invariant.1.at.fits
-
-pub lay_items-slice_bounds-left-start : goal.lay_items-slice_bounds-left-start
-lay_items-slice_bounds-left-start t c = c.loop-i.invariant.1.at.fits
 
 pub lay_items-overflow_add-item : goal.lay_items-overflow_add-item
 lay_items-overflow_add-item t c =
@@ -186,26 +158,12 @@ lay_items-returns t c = lines_end _ _ _ _ c.split_items-set.ensures c.loop-i.inv
 pub lay_out-trimmed-t-requires : goal.lay_out-trimmed-t-requires
 lay_out-trimmed-t-requires t c = holds_whole c.args.run.text.now c.args.run.table.now c.args.run.ready.holds
 
-pub lay_out-overflow_mul-margin : goal.lay_out-overflow_mul-margin
-lay_out-overflow_mul-margin t c =
-    let p = (indent_bound _ _ _ c.requires.1) in
-    search rules
-
 pub lay_out-offset_bounds-run-t : goal.lay_out-offset_bounds-run-t
 lay_out-offset_bounds-run-t t c =
     let h = (trimmed_here _ _ c.args.run.ready c.requires.0 c.trimmed-t.ensures) in
     let f = h.fits in
     let o = h.ordered in
     let s = c.args.run.ready.short in
-    search rules
-
-pub lay_out-slice_bounds-inner-count : goal.lay_out-slice_bounds-inner-count
-lay_out-slice_bounds-inner-count t c =
-    (trimmed_here _ _ c.args.run.ready c.requires.0 c.trimmed-t.ensures).ordered
-
-pub lay_out-slice_bounds-inner-start : goal.lay_out-slice_bounds-inner-start
-lay_out-slice_bounds-inner-start t c =
-    let o = (trimmed_here _ _ c.args.run.ready c.requires.0 c.trimmed-t.ensures).ordered in
     search rules
 
 pub lay_out-slice_bounds-inner-end : goal.lay_out-slice_bounds-inner-end
@@ -215,11 +173,6 @@ lay_out-slice_bounds-inner-end t c =
 pub lay_out-invariant_of-inner : goal.lay_out-invariant_of-inner
 lay_out-invariant_of-inner t c =
     record { ready = (trimmed_here _ _ c.args.run.ready c.requires.0 c.trimmed-t.ensures).ready }
-
-pub lay_out-measure-span-requires : goal.lay_out-measure-span-requires
-lay_out-measure-span-requires t c =
-    let p = (indent_bound _ _ _ c.requires.1) in
-    omega arith
 
 pub lay_out-overflow_add-margin : goal.lay_out-overflow_add-margin
 lay_out-overflow_add-margin t c =
@@ -231,15 +184,6 @@ pub lay_out-returns-then-margin-span : goal.lay_out-returns-then-margin-span
 lay_out-returns-then-margin-span t c =
     laid_out _ _ _ _ c.args.run.ready c.requires.0 c.requires.1
     (wrote-same (ap encode (run_flat (settings c.args.page) c.args.depth c.args.run.text.now c.args.run.table.now c.requires.0 (trimmed_here _ _ c.args.run.ready c.requires.0 c.trimmed-t.ensures) _ c.measure-span.ensures c.if-margin-span.true)) c.flat.ensures)
-
-pub lay_out-overflow_add-margin-2 : goal.lay_out-overflow_add-margin-2
-lay_out-overflow_add-margin-2 t c =
-    let p = (indent_bound _ _ _ c.requires.1) in
-    let h = (trimmed_here _ _ c.args.run.ready c.requires.0 c.trimmed-t.ensures) in
-    let f = h.fits in
-    let o = h.ordered in
-    let s = c.args.run.ready.short in
-    search rules
 
 pub lay_out-lay_run-requires : goal.lay_out-lay_run-requires
 lay_out-lay_run-requires t c =
@@ -299,16 +243,6 @@ pub lay_piece-lay_group-requires : goal.lay_piece-lay_group-requires
 lay_piece-lay_group-requires t c =
     (omega (arith, c.decreases), (c.requires.0, c.requires.1, (group_breaks (settings c.args.page) c.args.depth c.args.col c.args.follow c.args.run.text.now c.args.run.table.now (group_here _ _ c.args.run.ready c.requires.0.shaped c.requires.2 c.requires.0.tokens c.if-run-eq3.false) c.requires.0.tokens c.requires.3 c.filled.ensures c.if-filled-col.false).0))
 
-pub lay_piece-overflow_mul-result : goal.lay_piece-overflow_mul-result
-lay_piece-overflow_mul-result t c =
-    let p = (indent_bound _ _ _ c.requires.1) in
-    search rules
-
-pub lay_piece-overflow_add-result : goal.lay_piece-overflow_add-result
-lay_piece-overflow_add-result t c =
-    let p = (indent_bound _ _ _ c.requires.1) in
-    search rules
-
 pub lay_piece-returns : goal.lay_piece-returns
 lay_piece-returns t c =
     group-laid (settings c.args.page) c.args.depth c.args.col c.args.follow c.args.run.text.now c.args.run.table.now (group_here _ _ c.args.run.ready c.requires.0.shaped c.requires.2 c.requires.0.tokens c.if-run-eq3.false) (group_breaks (settings c.args.page) c.args.depth c.args.col c.args.follow c.args.run.text.now c.args.run.table.now (group_here _ _ c.args.run.ready c.requires.0.shaped c.requires.2 c.requires.0.tokens c.if-run-eq3.false) c.requires.0.tokens c.requires.3 c.filled.ensures c.if-filled-col.false).1 c.lay_group.ensures
@@ -316,10 +250,6 @@ lay_piece-returns t c =
 pub lay_run-loop-i-init : goal.lay_run-loop-i-init
 lay_run-loop-i-init t c =
     (refl, run_start _ _ _ _ _ _ c.args.run.ready c.requires.0 c.requires.2 c.requires.3)
-
-pub lay_run-piece_end-m-requires : goal.lay_run-piece_end-m-requires
-lay_run-piece_end-m-requires t c =
-    rest_some c.args.run.table.now c.loop-i.i c.loop-i-test.true
 
 pub lay_run-overflow_add-piece : goal.lay_run-overflow_add-piece
 lay_run-overflow_add-piece t c =
@@ -336,34 +266,10 @@ lay_run-invariant_of-piece t c =
     let h = (piece_here (settings c.args.page) _ _ _ _ c.loop-i.invariant.1.at c.loop-i-test.true c.piece_end-m.ensures) in
     record { ready = ready_part _ _ _ _ h.count c.args.run.ready c.loop-i.invariant.1.at.holds h.words }
 
-pub lay_run-measure-span-requires : goal.lay_run-measure-span-requires
-lay_run-measure-span-requires t c =
-    let f = c.loop-i.invariant.1.far in let g = c.loop-i.invariant.1.at.fits in let s = c.args.run.ready.short in omega arith
-
 pub lay_run-overflow_sub-rest : goal.lay_run-overflow_sub-rest
 lay_run-overflow_sub-rest t c =
     let r = run_rest _ _ _ _ _ c.loop-i.invariant.1 (piece_here (settings c.args.page) _ _ _ _ c.loop-i.invariant.1.at c.loop-i-test.true c.piece_end-m.ensures) in
     width_le _ _ _ _ _ c.measure-span.ensures r
-
-pub lay_run-overflow_add-i-in-loop-i : goal.lay_run-overflow_add-i-in-loop-i
-lay_run-overflow_add-i-in-loop-i t c =
-    let h = (piece_here (settings c.args.page) _ _ _ _ c.loop-i.invariant.1.at c.loop-i-test.true c.piece_end-m.ensures).fits in
-    let s = c.args.run.ready.short in
-    omega arith
-
-pub lay_run-offset_bounds-run-i-in-loop-i-2 : goal.lay_run-offset_bounds-run-i-in-loop-i-2
-lay_run-offset_bounds-run-i-in-loop-i-2 t c =
-    let h = (piece_here (settings c.args.page) c.args.run.text.now c.args.run.table.now c.loop-i.i c.piece_end-m.result c.loop-i.invariant.1.at c.loop-i-test.true c.piece_end-m.ensures).fits in
-    let s = c.args.run.ready.short in
-    search rules
-
-pub lay_run-slice_bounds-lead-count : goal.lay_run-slice_bounds-lead-count
-lay_run-slice_bounds-lead-count t c =
-    (piece_here (settings c.args.page) _ _ _ _ c.loop-i.invariant.1.at c.loop-i-test.true c.piece_end-m.ensures).fits
-
-pub lay_run-slice_bounds-lead-start : goal.lay_run-slice_bounds-lead-start
-lay_run-slice_bounds-lead-start t c =
-    (piece_here (settings c.args.page) _ _ _ _ c.loop-i.invariant.1.at c.loop-i-test.true c.piece_end-m.ensures).fits
 
 pub lay_run-lead-requires : goal.lay_run-lead-requires
 lay_run-lead-requires t c =
