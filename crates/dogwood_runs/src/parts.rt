@@ -16,4 +16,3 @@ pub enum Separator {
     Comma,
     AndOr,
 }
-

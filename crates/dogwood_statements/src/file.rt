@@ -80,20 +80,16 @@ fn lay_statement(out: &mut [u8], run: Run, parts: &[u32], page: Page) -> usize
 }
 
 // Writes the comments before a statement, and the statement.
-fn lay_next(
-    out: &mut [u8],
-    before: Run,
-    run: Run,
-    parts: &[u32],
-    page: Page,
-    feeds: usize,
-) -> usize
+fn lay_next(out: &mut [u8], before: Run, run: Run, parts: &[u32], page: Page, feeds: usize) -> usize
     requires { Paired parts.now × AllParts (parts_of (pairs parts.now) (entries run.text.now run.table.now)) × Bounded page 0 (length run.table.now) }
     ensures { Wrote out.old (encode (due_remarks feeds (tokens before.entry.text.now before.entry.table.now) ++ behind (remarks_due feeds (tokens before.entry.text.now before.entry.table.now)) (piece_text (settings page) (laid (parts_of (pairs parts.now) (entries run.entry.text.now run.entry.table.now)))))) result out.new }
 {
     let remarks = put_remarks(out, before, feeds);
     let at = clip(remarks.count, out.len());
-    let a = add(remarks.count, put_copies(&mut out[at..], b'\n', remarks.feeds));
+    let a = add(
+        remarks.count,
+        put_copies(&mut out[at..], b'\n', remarks.feeds),
+    );
     let bt = clip(a, out.len());
     add(a, lay_statement(&mut out[bt..], run, parts, page))
 }
