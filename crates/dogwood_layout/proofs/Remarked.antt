@@ -3,7 +3,7 @@ use Rattle.std.specs.Prelude.{if◌then◌else◌, map}
 use mathlib.Core.Path.{◌≡◌, refl, sym, ◌∙◌, ap}
 use mathlib.Core.Bool.{Bool, true, false}
 use mathlib.Core.List.{List, [], ◌∷◌, ◌++◌, append-nil, append_assoc}
-use Prim.Native.Nat.{ℕ, ◌+◌, ◌-◌, ◌<◌, ◌≤◌, min}
+use Prim.Native.Nat.{ℕ, ◌+◌, ◌-◌, ◌≤◌, min}
 use native.Mathlib.Omega.{arith}
 use lib.Dec.{eqb}
 use lib.ListN.{length, take, drop, replicate}
@@ -13,7 +13,7 @@ use Rattle.pen.specs.Over.{cap, Wrote}
 use Rattle.pen.proofs.Laws.{wrote-nil, wrote-same}
 use Rattle.dogwood_rules.specs.Basic.{drop_back}
 use Rattle.dogwood_rules.specs.Utf8.{encode, decode, byte_length}
-use Rattle.dogwood_rules.specs.Token.{Token, Whitespace, Comment, String, Identifier, Number, Symbol, Other, white}
+use Rattle.dogwood_rules.specs.Token.{Whitespace, Comment, String, Identifier, Number, Symbol, Other, white}
 use Rattle.dogwood_rules.specs.Tree.{comment, is_comment}
 use Rattle.dogwood_layout.specs.declared.Entry.{Entry}
 use Rattle.dogwood_layout.specs.View.{kind_of, bytes_at, token_of, tokens, rows, Held, Holds}

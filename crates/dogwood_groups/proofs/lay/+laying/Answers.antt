@@ -9,8 +9,8 @@ use Rattle.dogwood_rules.specs.Utf8.{encode}
 use Rattle.dogwood_layout.specs.Pieces.{OnePiece, settings}
 use Rattle.dogwood_layout.specs.Ends.{Whole}
 use Rattle.dogwood_layout.proofs.Lengths.{laid_out, laid-wrote}
-use Rattle.dogwood_layout.proofs.Tables.{held_at, ready_rest, ready_part, part_rest}
-use Rattle.dogwood_layout.proofs.Bounds.{bounded_less, length_part, bounded_part, rest_some, width_le}
+use Rattle.dogwood_layout.proofs.Tables.{held_at, ready_part, part_rest}
+use Rattle.dogwood_layout.proofs.Bounds.{bounded_less, length_part, bounded_part, width_le}
 use Rattle.dogwood_layout.proofs.Shapes.{run_from, formed_from}
 use Rattle.dogwood_layout.proofs.Groups.{joined_bound}
 use Rattle.dogwood_layout.proofs.Parts.{trimmed_here, trimmed_formed, trimmed_length, group_here, group_formed}

@@ -3,7 +3,7 @@ use Prim.Native.Nat.{◌+◌}
 use native.Mathlib.Omega.{arith}
 use borrow.Author.Rules.{rules}
 use Rattle.pen.proofs.Laws.{wrote-length}
-use Rattle.dogwood_layout.proofs.Statements.{cut_here, rest_whole, pair_there, parts_start, part_here, part_ready, part_bounded, parts_turn, parts_over}
+use Rattle.dogwood_layout.proofs.Statements.{cut_here, rest_whole, parts_start, part_here, part_ready, part_bounded, parts_turn, parts_over}
 use Rattle.dogwood_layout.specs.Pieces.{settings}
 use Rattle.dogwood_statements.proofs.file.lay_statement.Goals as goal
 

@@ -4,7 +4,6 @@ use native.Mathlib.Omega.{arith}
 use borrow.Author.Rules.{rules}
 use Rattle.pen.proofs.Laws.{wrote-length}
 use Rattle.dogwood_layout.specs.Pieces.{settings}
-use Rattle.dogwood_layout.proofs.Tables.{ready_rest}
 use Rattle.dogwood_layout.proofs.Statements.{cut_here, rest_whole}
 use Rattle.dogwood_layout.proofs.Outlines.{statement_at_lem, file_start, next_parts, next_paired, next_before, next_own, next_bounded, file_turn, file_last}
 use Rattle.dogwood_layout.proofs.Totals.{file_laid}
