@@ -23,11 +23,13 @@ import rust
 CRATE = "dogwood_groups"
 ARCHIVE = os.path.join(rust.BUILT, "layout", f"lib{CRATE}.a")
 EXPORT = """
+ghost use Rattle.dogwood_layout.specs.View.{{Ready}};
+
 #[unsafe(no_mangle)]
 pub extern "C" fn dogwood_lay_out(out: &mut [u8], text: &[u8], table: &[u32], width: usize, indent: usize) -> usize
     {requires}
 {{
-    lay::lay_out(out, text, table, dogwood_layout::Page {{ width, indent }}, 0)
+    lay::lay_out(out, dogwood_runs::Run {{ text, table }}, dogwood_layout::Page {{ width, indent }}, 0)
 }}
 """
 # what every run of up to six tokens is made of
@@ -37,8 +39,9 @@ CHUNK = 20_000
 
 
 def exported(source):
-    """The words of `lay_out`'s own `requires`, for a page of that width and indent at depth 0."""
+    """What `lay_out` asks, by the type of its run and by its own `requires`, for a page of that width and indent at depth 0."""
     terms = re.search(r"fn lay_out\(.*?\n\s*(requires \{.*?\})\n", source, re.S).group(1)
+    terms = terms.replace("run.text.now", "text.now").replace("run.table.now", "table.now").replace("requires { ", "requires { Ready text.now table.now × ")
     return terms.replace("Bounded page depth", "Bounded (record { width = width; indent = indent }) 0")
 
 
