@@ -3,13 +3,13 @@ ghost use Rattle.std.specs.Prelude.{◌≡◌, [], ◌∷◌};
 ghost use Rattle.dogwood_rules.specs.Basic.{drop_back};
 ghost use Rattle.dogwood_rules.specs.Utf8.{decode, byte_length};
 ghost use Rattle.dogwood_rules.specs.Token.{white};
-ghost use Rattle.dogwood_layout.specs.View.{token_of, tokens, Held};
+ghost use Rattle.dogwood_layout.specs.View.{token_of, tokens, Held, Holds};
 ghost use Rattle.dogwood_layout.specs.Feeds.{due_remarks, remarks_due, Due};
 
 use dogwood_layout::{Entry, Written};
 use dogwood_letters::is_space;
 use dogwood_rows::Kind;
-use dogwood_runs::{Entries, Run};
+use dogwood_runs::Entries;
 use pen::{add, clip, put_all, put_copies};
 use utf8::{Char, decode};
 
@@ -60,15 +60,16 @@ fn put_remark(out: &mut [u8], text: &[u8], e: Entry, feeds: usize) -> Written
     }
 }
 
-// Writes the comments among a run's tokens.
-pub fn put_remarks(out: &mut [u8], run: Run, feeds: usize) -> Written
-    ensures { Due (due_remarks feeds (tokens run.entry.text.now run.entry.table.now)) (remarks_due feeds (tokens run.entry.text.now run.entry.table.now)) out.old result.count result.feeds out.new }
+// Writes the comments among a table's tokens.
+pub fn put_remarks(out: &mut [u8], text: &[u8], table: &[u32], feeds: usize) -> Written
+    requires { Holds text.now table.now }
+    ensures { Due (due_remarks feeds (tokens text.now table.now)) (remarks_due feeds (tokens text.now table.now)) out.old result.count result.feeds out.new }
 {
     let mut n: usize = 0;
     let mut due = feeds;
-    for e in Entries::of(run.table) {
+    for e in Entries::of(table) {
         let at = clip(n, out.len());
-        let remark = put_remark(&mut out[at..], run.text, e, due);
+        let remark = put_remark(&mut out[at..], text, e, due);
         n = add(n, remark.count);
         due = remark.feeds;
     }

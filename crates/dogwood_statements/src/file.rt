@@ -84,7 +84,7 @@ fn lay_next(out: &mut [u8], before: Run, run: Run, parts: &[u32], page: Page, fe
     requires { Paired parts.now × AllParts (parts_of (pairs parts.now) (entries run.text.now run.table.now)) × Bounded page 0 (length run.table.now) }
     ensures { Wrote out.old (encode (due_remarks feeds (tokens before.entry.text.now before.entry.table.now) ++ behind (remarks_due feeds (tokens before.entry.text.now before.entry.table.now)) (piece_text (settings page) (laid (parts_of (pairs parts.now) (entries run.entry.text.now run.entry.table.now)))))) result out.new }
 {
-    let remarks = put_remarks(out, before, feeds);
+    let remarks = put_remarks(out, before.text, before.table, feeds);
     let at = clip(remarks.count, out.len());
     let a = add(
         remarks.count,
@@ -132,11 +132,7 @@ pub fn top_level_items(out: &mut [u8], run: Run, outline: &[u32], page: Page) ->
         i = b;
         o = next;
     }
-    let rest = Run {
-        text: run.text,
-        table: &run.table[i..],
-    };
     let at = clip(n, out.len());
-    let last = put_remarks(&mut out[at..], rest, feeds);
+    let last = put_remarks(&mut out[at..], run.text, &run.table[i..], feeds);
     add(n, last.count)
 }

@@ -4,7 +4,7 @@ use Rattle.dogwood_layout.proofs.Remarked.{RemarksAt, remarks_start, remarks_tur
 use Rattle.dogwood_remarks.proofs.remark.put_remarks.Goals as goal
 
 pub loop-e-init : goal.loop-e-init
-loop-e-init c = rw (c.into_iter-e-iterator.ensures.into_iter_gives, c.of-e-items.ensures) (remarks_start _ _ _ _ c.args.run.ready.holds)
+loop-e-init c = rw (c.into_iter-e-iterator.ensures.into_iter_gives, c.of-e-items.ensures) (remarks_start _ _ _ _ c.requires)
 
 pub put_remark-remark-requires : goal.put_remark-remark-requires
 put_remark-remark-requires c = (subst (RemarksAt _ _ _ _ _ _ _) c.in-Some.ensures.steps c.loop-e.invariant).held.0

@@ -3,4 +3,4 @@ use Rattle.dogwood_runs.specs.Promises.{entries_left}
 use Rattle.dogwood_remarks.proofs.remark.put_remarks.Given as goal
 
 abbrev pub invariant-loop-e : goal.invariant-loop-e
-invariant-loop-e l = RemarksAt l.run.text.now l.run.table.now l.feeds l.initial.out l.out l.n l.due (entries_left l.e-iterator)
+invariant-loop-e l = RemarksAt l.text l.table l.feeds l.initial.out l.out l.n l.due (entries_left l.e-iterator)

@@ -3,6 +3,9 @@ use Rattle.pen.proofs.Laws.{wrote_then, wrote-same, wrote-length}
 use Rattle.dogwood_layout.proofs.Dues.{next-bytes}
 use Rattle.dogwood_statements.proofs.file.lay_next.Goals as goal
 
+pub put_remarks-remarks-requires : goal.put_remarks-remarks-requires
+put_remarks-remarks-requires c = c.args.before.ready.holds
+
 pub returns : goal.returns
 returns c =
     let remarks = c.put_remarks-remarks.ensures in

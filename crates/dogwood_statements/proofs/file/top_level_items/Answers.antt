@@ -1,9 +1,11 @@
-use mathlib.Core.Path.{refl}
+use mathlib.Core.Path.{refl, sym, subst}
 use Prim.Native.Nat.{◌+◌}
 use native.Mathlib.Omega.{arith}
 use borrow.Author.Rules.{rules}
 use Rattle.pen.proofs.Laws.{wrote-length}
 use Rattle.dogwood_layout.specs.Pieces.{settings}
+use Rattle.dogwood_layout.specs.View.{Holds}
+use Rattle.dogwood_layout.proofs.Tables.{part_rest}
 use Rattle.dogwood_layout.proofs.Statements.{cut_here, rest_whole}
 use Rattle.dogwood_layout.proofs.Outlines.{statement_at_lem, file_start, next_parts, next_paired, next_before, next_own, next_bounded, file_turn, file_last}
 use Rattle.dogwood_layout.proofs.Totals.{file_laid}
@@ -139,6 +141,9 @@ loop-o-preserved c =
     let v = cut_here c.args.run.text.now c.args.run.table.now (c.loop-o.i + c.until.result) _ _ u.holds u.fits c.until-in-loop-o.ensures in
     let g = file_turn (settings c.args.page) _ _ _ a s u v c.clip-at.ensures.place (omega (arith, c.loop-o.invariant.0, c.well_formed)) c.lay_next.ensures c.add-n.ensures.sum in
     (wrote-length g.wrote, g)
+
+pub put_remarks-last-requires : goal.put_remarks-last-requires
+put_remarks-last-requires c = subst (Holds c.args.run.text.now) (sym (part_rest c.args.run.table.now c.loop-o.i)) c.loop-o.invariant.1.holds
 
 pub returns : goal.returns
 returns c =
