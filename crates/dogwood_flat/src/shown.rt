@@ -3,32 +3,30 @@ ghost use Rattle.std.specs.Prelude.{◌∷◌, ◌++◌, replicate};
 ghost use Rattle.pen.specs.Over.{Wrote};
 ghost use Rattle.dogwood_rules.specs.Utf8.{encode};
 ghost use Rattle.dogwood_rules.specs.Tree.{shown, joined};
-ghost use Rattle.dogwood_layout.specs.View.{token_of, tokens, Held};
+ghost use Rattle.dogwood_layout.specs.View.{token_of, tokens};
 
-use dogwood_layout::Entry;
+use dogwood_layout::Lexeme;
 use dogwood_rows::Kind;
 use dogwood_runs::{Run, entry_at};
 use pen::{add, clip, put, put_all, put_line};
 
 // Writes one token, white space as one blank.
-pub fn put_token(out: &mut [u8], text: &[u8], e: Entry) -> usize
-    requires { Held text.now e }
-    ensures { Wrote out.old (encode (shown (token_of text.now e))) result out.new }
+pub fn put_token(out: &mut [u8], token: Lexeme) -> usize
+    ensures { Wrote out.old (encode (shown (token_of token.entry.text.now token.entry.row))) result out.new }
 {
-    if e.kind == Kind::Whitespace as u32 {
+    if token.row.kind == Kind::Whitespace as u32 {
         return put(out, b' ');
     }
-    put_all(out, e.bytes(text))
+    put_all(out, token.bytes())
 }
 
 // Writes an LF, n spaces and a token.
-pub fn put_closing(out: &mut [u8], text: &[u8], e: Entry, n: usize) -> usize
-    requires { Held text.now e }
-    ensures { Wrote out.old ((10 ∷ replicate n 32) ++ encode (shown (token_of text.now e))) result out.new }
+pub fn put_closing(out: &mut [u8], token: Lexeme, n: usize) -> usize
+    ensures { Wrote out.old ((10 ∷ replicate n 32) ++ encode (shown (token_of token.entry.text.now token.entry.row))) result out.new }
 {
     let a = put_line(out, n);
     let at = clip(a, out.len());
-    add(a, put_token(&mut out[at..], text, e))
+    add(a, put_token(&mut out[at..], token))
 }
 
 // Writes a run's tokens, each white-space token as one blank.
@@ -38,9 +36,12 @@ pub fn flat(out: &mut [u8], run: Run) -> usize
     let mut n: usize = 0;
     let mut i: usize = 0;
     while i < run.table.len() {
-        let e = entry_at(run.table, i);
+        let token = Lexeme {
+            text: run.text,
+            row: entry_at(run.table, i),
+        };
         let at = clip(n, out.len());
-        n = add(n, put_token(&mut out[at..], run.text, e));
+        n = add(n, put_token(&mut out[at..], token));
         i += 3;
     }
     n

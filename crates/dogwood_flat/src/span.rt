@@ -1,11 +1,11 @@
 // The width of a run and the column behind it.
 ghost use Rattle.std.specs.Prelude.{◌≡◌, ◌<◌};
 ghost use Rattle.dogwood_rules.specs.Tree.{shown};
-ghost use Rattle.dogwood_layout.specs.View.{token_of, Held};
+ghost use Rattle.dogwood_layout.specs.View.{token_of};
 ghost use Rattle.dogwood_layout.specs.Measure.{span_after, past_byte, past_bytes};
 ghost use Rattle.dogwood_flat.specs.Promises.{SpanIs};
 
-use dogwood_layout::{Entry, Span};
+use dogwood_layout::{Lexeme, Span};
 use dogwood_rows::Kind;
 use dogwood_runs::{Run, entry_at};
 
@@ -40,17 +40,17 @@ fn past_bytes(bytes: &[u8], start: Span) -> Span
     s
 }
 
-fn past_token(text: &[u8], e: Entry, s: Span) -> Span
-    requires { Held text.now e × (s.width < 0x7fff_ffff_ffff_ffff) × (s.col < 0x7fff_ffff_ffff_ffff) }
-    ensures { result ≡ span_after s (shown (token_of text.now e)) }
+fn past_token(token: Lexeme, s: Span) -> Span
+    requires { (s.width < 0x7fff_ffff_ffff_ffff) × (s.col < 0x7fff_ffff_ffff_ffff) }
+    ensures { result ≡ span_after s (shown (token_of token.entry.text.now token.entry.row)) }
 {
-    if e.kind == Kind::Whitespace as u32 {
+    if token.row.kind == Kind::Whitespace as u32 {
         return Span {
             width: s.width + 1,
             col: s.col + 1,
         };
     }
-    past_bytes(e.bytes(text), s)
+    past_bytes(token.bytes(), s)
 }
 
 // The width of a run's tokens, each white-space token one blank, and the column behind them where they start in column col.
@@ -61,7 +61,11 @@ pub fn measure(run: Run, col: usize) -> Span
     let mut s = Span { width: 0, col: col };
     let mut i: usize = 0;
     while i < run.table.len() {
-        s = past_token(run.text, entry_at(run.table, i), s);
+        let token = Lexeme {
+            text: run.text,
+            row: entry_at(run.table, i),
+        };
+        s = past_token(token, s);
         i += 3;
     }
     s

@@ -10,7 +10,7 @@ ghost use Rattle.dogwood_rules.specs.Layout.{walk, layout};
 ghost use Rattle.dogwood_layout.specs.Pieces.{settings, Bounded, WroteText, Measured, OnePiece, Broken, PieceLaid, broken_text, items_text, item_text};
 
 use dogwood_flat::{flat, measure, put_closing, put_token};
-use dogwood_layout::{Page, Span};
+use dogwood_layout::{Lexeme, Page, Span};
 use dogwood_runs::{Run, entry_at, filled, item_end, lead, piece_end, split_items, trimmed};
 use pen::{add, clip, put_line};
 
@@ -116,19 +116,19 @@ fn lay_group(out: &mut [u8], run: Run, page: Page, depth: usize) -> usize
         text: run.text,
         table: &run.table[3..end],
     };
-    let a = put_token(out, run.text, entry_at(run.table, 0));
+    let opener = Lexeme {
+        text: run.text,
+        row: entry_at(run.table, 0),
+    };
+    let a = put_token(out, opener);
     let at = clip(a, out.len());
     let b = add(a, lay_items(&mut out[at..], inside, page, depth + 1));
+    let closer = Lexeme {
+        text: run.text,
+        row: entry_at(run.table, end),
+    };
     let bt = clip(b, out.len());
-    add(
-        b,
-        put_closing(
-            &mut out[bt..],
-            run.text,
-            entry_at(run.table, end),
-            page.indent * depth,
-        ),
-    )
+    add(b, put_closing(&mut out[bt..], closer, page.indent * depth))
 }
 
 // Writes the items of an inside, each on a line of its own.

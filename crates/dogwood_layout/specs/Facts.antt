@@ -7,7 +7,7 @@ use Rattle.dogwood_layout.specs.View.{bytes_at, token_of, Held, Holds, Ready}
 use Rattle.dogwood_rules.specs.Utf8.{encode}
 use Rattle.std.specs.Prelude.{◌≡◌}
 
-Held-prop : (text : List ℕ) (e : Entry) → IsProp (Held text e)
+pub Held-prop : (text : List ℕ) (e : Entry) → IsProp (Held text e)
 Held-prop text e x y =
     let spells_prop : IsProp (encode (token_of text e).text ≡ bytes_at text e) = hlevel props in
     λ i. record {

@@ -1,6 +1,9 @@
 // What the layout speaks of: definitions of its pieces and the laws about them. One function, which reads a token's bytes.
 #![tactic(auto)]
 
+ghost use Rattle.dogwood_layout.specs.View.{Held};
+ghost use Rattle.dogwood_layout.specs.Facts.{Held-prop};
+
 // A token's kind, and its bounds in the text.
 #[derive(Clone, Copy)]
 pub struct Entry {
@@ -9,16 +12,22 @@ pub struct Entry {
     pub end: u32,
 }
 
-impl Entry {
-    ghost use Rattle.dogwood_layout.specs.View.{Held};
+// A text and the row of a token that it holds: the token's bounds lie in the text, and it spells the bytes between them.
+#[derive(Clone, Copy)]
+pub struct Lexeme<'a> {
+    pub text: &'a [u8],
+    pub row: Entry,
+    ghost held: { Held text.now row } by { Held-prop text.now row },
+}
+
+impl<'a> Lexeme<'a> {
     ghost use Rattle.dogwood_layout.specs.Promises.{BytesAre};
 
     // What the token spells.
-    pub fn bytes(self, text: &[u8]) -> &[u8]
-        requires { Held text.now self }
-        ensures { BytesAre text.now self result.now }
+    pub fn bytes(self) -> &'a [u8]
+        ensures { BytesAre self.entry.text.now self.entry.row result.now }
     {
-        &text[self.start as usize..self.end as usize]
+        &self.text[self.row.start as usize..self.row.end as usize]
     }
 }
 

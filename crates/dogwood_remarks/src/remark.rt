@@ -3,10 +3,10 @@ ghost use Rattle.std.specs.Prelude.{◌≡◌, [], ◌∷◌};
 ghost use Rattle.dogwood_rules.specs.Basic.{drop_back};
 ghost use Rattle.dogwood_rules.specs.Utf8.{decode, byte_length};
 ghost use Rattle.dogwood_rules.specs.Token.{white};
-ghost use Rattle.dogwood_layout.specs.View.{token_of, tokens, Held, Holds};
+ghost use Rattle.dogwood_layout.specs.View.{token_of, tokens, Holds};
 ghost use Rattle.dogwood_layout.specs.Feeds.{due_remarks, remarks_due, Due};
 
-use dogwood_layout::{Entry, Written};
+use dogwood_layout::{Lexeme, Written};
 use dogwood_letters::is_space;
 use dogwood_rows::Kind;
 use dogwood_runs::Entries;
@@ -41,17 +41,16 @@ fn kept(bytes: &[u8]) -> usize
 }
 
 // Writes the LFs that are due and a token's text if it is a comment, else nothing.
-fn put_remark(out: &mut [u8], text: &[u8], e: Entry, feeds: usize) -> Written
-    requires { Held text.now e }
-    ensures { Due (due_remarks feeds (token_of text.now e ∷ [])) (remarks_due feeds (token_of text.now e ∷ [])) out.old result.count result.feeds out.new }
+fn put_remark(out: &mut [u8], token: Lexeme, feeds: usize) -> Written
+    ensures { Due (due_remarks feeds (token_of token.entry.text.now token.entry.row ∷ [])) (remarks_due feeds (token_of token.entry.text.now token.entry.row ∷ [])) out.old result.count result.feeds out.new }
 {
-    if e.kind != Kind::Comment as u32 {
+    if token.row.kind != Kind::Comment as u32 {
         return Written {
             count: 0,
             feeds: feeds,
         };
     }
-    let bytes = e.bytes(text);
+    let bytes = token.bytes();
     let n = put_copies(out, b'\n', feeds);
     let at = clip(n, out.len());
     Written {
@@ -67,9 +66,10 @@ pub fn put_remarks(out: &mut [u8], text: &[u8], table: &[u32], feeds: usize) -> 
 {
     let mut n: usize = 0;
     let mut due = feeds;
-    for e in Entries::of(table) {
+    for row in Entries::of(table) {
+        let token = Lexeme { text, row };
         let at = clip(n, out.len());
-        let remark = put_remark(&mut out[at..], text, e, due);
+        let remark = put_remark(&mut out[at..], token, due);
         n = add(n, remark.count);
         due = remark.feeds;
     }

@@ -8,7 +8,7 @@ ghost use Rattle.dogwood_runs.specs.Promises.{LeadIs, TrimmedIs, FilledIs, ItemI
 
 use crate::parts::{Run, Separator};
 use crate::table::{cuts_after, cuts_before, depth_after, entry_at, opens};
-use dogwood_layout::Part;
+use dogwood_layout::{Lexeme, Part};
 use dogwood_rows::Kind;
 
 // How many words of white space stand at the front of a table.
@@ -68,7 +68,11 @@ fn group_end(run: Run) -> usize
     let mut depth: usize = 0;
     let mut i: usize = 0;
     while i < run.table.len() {
-        depth = depth_after(run.text, entry_at(run.table, i), depth);
+        let token = Lexeme {
+            text: run.text,
+            row: entry_at(run.table, i),
+        };
+        depth = depth_after(token, depth);
         i += 3;
         if depth == 0 {
             break;
@@ -85,14 +89,17 @@ pub fn item_end(run: Run, set: Option<Separator>) -> usize
     let mut depth: usize = 0;
     let mut i: usize = 0;
     while i < run.table.len() {
-        let e = entry_at(run.table, i);
-        if !first & cuts_before(run.text, e, set, depth) {
+        let token = Lexeme {
+            text: run.text,
+            row: entry_at(run.table, i),
+        };
+        if !first & cuts_before(token, set, depth) {
             return i;
         }
-        if cuts_after(run.text, e, set, depth) {
+        if cuts_after(token, set, depth) {
             return i + 3;
         }
-        depth = depth_after(run.text, e, depth);
+        depth = depth_after(token, depth);
         first = false;
         i += 3;
     }
@@ -104,7 +111,11 @@ pub fn piece_end(run: Run) -> usize
     requires { 0 < length run.table.now }
     ensures { PieceIs run.entry.text.now run.entry.table.now result }
 {
-    if opens(run.text, entry_at(run.table, 0)) {
+    let first = Lexeme {
+        text: run.text,
+        row: entry_at(run.table, 0),
+    };
+    if opens(first) {
         return group_end(run);
     }
     3

@@ -9,9 +9,12 @@ loop-i-init c = span_start _ _ _ c.args.run.ready.holds
 pub entry_at-requires : goal.entry_at-requires
 entry_at-requires c = entry_there _ _ _ c.loop-i.invariant.holds c.loop-i-test.true
 
+pub invariant_of-token : goal.invariant_of-token
+invariant_of-token c = record { held = held_at _ _ _ c.loop-i.invariant.holds c.loop-i-test.true c.entry_at.ensures }
+
 pub past_token-s-requires : goal.past_token-s-requires
 past_token-s-requires c =
-    (held_at _ _ _ c.loop-i.invariant.holds c.loop-i-test.true c.entry_at.ensures, (let w = c.loop-i.invariant.wide in let f = c.loop-i.invariant.fits in let d = c.args.run.ready.short in omega arith), (let w = c.loop-i.invariant.far in let f = c.loop-i.invariant.fits in let d = c.args.run.ready.short in let e = c.requires in omega arith))
+    ((let w = c.loop-i.invariant.wide in let f = c.loop-i.invariant.fits in let d = c.args.run.ready.short in omega arith), (let w = c.loop-i.invariant.far in let f = c.loop-i.invariant.fits in let d = c.args.run.ready.short in let e = c.requires in omega arith))
 
 pub overflow_add-i : goal.overflow_add-i
 overflow_add-i c = (let a = c.loop-i.invariant.fits in let d = c.args.run.ready.short in omega arith)

@@ -4,12 +4,12 @@ use Rattle.dogwood_layout.proofs.Bytes.{past-encode, span_blank}
 use Rattle.dogwood_layout.proofs.Tables.{shown-blank, shown-bytes}
 use Rattle.dogwood_flat.proofs.span.past_token.Goals as goal
 
-pub returns-then-e : goal.returns-then-e
-returns-then-e c = span_blank _ ∙ ap (span_after _) (sym (shown-blank _ _ c.if-e.true))
+pub returns-then-token : goal.returns-then-token
+returns-then-token c = span_blank _ ∙ ap (span_after _) (sym (shown-blank _ _ c.if-token.true))
 
 pub past_bytes-requires : goal.past_bytes-requires
-past_bytes-requires c = (c.requires.1, c.requires.2)
+past_bytes-requires c = c.requires
 
 pub returns : goal.returns
 returns c =
-    c.past_bytes.ensures ∙ ap (past_bytes _) (c.bytes.ensures ∙ sym (shown-bytes c.requires.0 c.if-e.false)) ∙ past-encode _ _
+    c.past_bytes.ensures ∙ ap (past_bytes _) (c.bytes.ensures ∙ sym (shown-bytes c.args.token.held c.if-token.false)) ∙ past-encode _ _

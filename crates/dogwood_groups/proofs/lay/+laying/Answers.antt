@@ -30,10 +30,10 @@ lay_group-entry_at-requires t c =
     let l = (broken_here _ _ c.args.run.ready c.requires.0.shaped c.requires.2 c.requires.0.tokens).long in
     omega arith
 
-pub lay_group-put_token-a-requires : goal.lay_group-put_token-a-requires
-lay_group-put_token-a-requires t c =
+pub lay_group-invariant_of-opener : goal.lay_group-invariant_of-opener
+lay_group-invariant_of-opener t c =
     let l = (broken_here _ _ c.args.run.ready c.requires.0.shaped c.requires.2 c.requires.0.tokens).long in
-    held_at c.args.run.text.now c.args.run.table.now 0 c.args.run.ready.holds (omega arith) c.entry_at.ensures
+    record { held = held_at c.args.run.text.now c.args.run.table.now 0 c.args.run.ready.holds (omega arith) c.entry_at.ensures }
 
 pub lay_group-slice_bounds-inside-count : goal.lay_group-slice_bounds-inside-count
 lay_group-slice_bounds-inside-count t c =
@@ -62,11 +62,11 @@ lay_group-entry_at-requires-2 t c =
     let l = (broken_here _ _ c.args.run.ready c.requires.0.shaped c.requires.2 c.requires.0.tokens).long in
     omega arith
 
-pub lay_group-put_closing-requires : goal.lay_group-put_closing-requires
-lay_group-put_closing-requires t c =
+pub lay_group-invariant_of-closer : goal.lay_group-invariant_of-closer
+lay_group-invariant_of-closer t c =
     let h = (broken_here _ _ c.args.run.ready c.requires.0.shaped c.requires.2 c.requires.0.tokens) in
     let l = h.long in
-    held_at c.args.run.text.now c.args.run.table.now (length c.args.run.table.now - 3) h.last_holds (omega arith) c.entry_at-2.ensures
+    record { held = held_at c.args.run.text.now c.args.run.table.now (length c.args.run.table.now - 3) h.last_holds (omega arith) c.entry_at-2.ensures }
 
 pub lay_group-returns : goal.lay_group-returns
 lay_group-returns t c =

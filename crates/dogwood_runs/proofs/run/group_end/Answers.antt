@@ -9,9 +9,11 @@ loop-i-init c = group_start _ _ c.args.run.ready.holds
 pub entry_at-requires : goal.entry_at-requires
 entry_at-requires c = entry_there _ _ _ c.loop-i.invariant.holds c.loop-i-test.true
 
+pub invariant_of-token : goal.invariant_of-token
+invariant_of-token c = record { held = held_at _ _ _ c.loop-i.invariant.holds c.loop-i-test.true c.entry_at.ensures }
+
 pub depth_after-depth-requires : goal.depth_after-depth-requires
-depth_after-depth-requires c =
-    (held_at _ _ _ c.loop-i.invariant.holds c.loop-i-test.true c.entry_at.ensures, (let a = c.loop-i.invariant.fits in let b = c.loop-i.invariant.low in let d = c.args.run.ready.short in omega arith))
+depth_after-depth-requires c = (let a = c.loop-i.invariant.fits in let b = c.loop-i.invariant.low in let d = c.args.run.ready.short in omega arith)
 
 pub overflow_add-i : goal.overflow_add-i
 overflow_add-i c = (let a = c.loop-i.invariant.fits in let d = c.args.run.ready.short in omega arith)

@@ -8,18 +8,15 @@ use Rattle.dogwood_runs.proofs.run.item_end.Goals as goal
 pub loop-i-init : goal.loop-i-init
 loop-i-init c = item_start _ _ _ c.args.run.ready.holds
 
-pub entry_at-e-requires : goal.entry_at-e-requires
-entry_at-e-requires c = entry_there _ _ _ c.loop-i.invariant.holds c.loop-i-test.true
+pub entry_at-requires : goal.entry_at-requires
+entry_at-requires c = entry_there _ _ _ c.loop-i.invariant.holds c.loop-i-test.true
 
-pub cuts_before-requires : goal.cuts_before-requires
-cuts_before-requires c = held_at _ _ _ c.loop-i.invariant.holds c.loop-i-test.true c.entry_at-e.ensures
+pub invariant_of-token : goal.invariant_of-token
+invariant_of-token c = record { held = held_at _ _ _ c.loop-i.invariant.holds c.loop-i-test.true c.entry_at.ensures }
 
 pub returns-then-first-cuts_before : goal.returns-then-first-cuts_before
 returns-then-first-cuts_before c =
-    item_before _ _ _ _ _ _ c.loop-i.invariant c.loop-i-test.true _ c.entry_at-e.ensures (ap (λ (b : Bool). not c.loop-i.first && b) (sym c.cuts_before.ensures) ∙ c.if-first-cuts_before.true)
-
-pub cuts_after-requires : goal.cuts_after-requires
-cuts_after-requires c = held_at _ _ _ c.loop-i.invariant.holds c.loop-i-test.true c.entry_at-e.ensures
+    item_before _ _ _ _ _ _ c.loop-i.invariant c.loop-i-test.true _ c.entry_at.ensures (ap (λ (b : Bool). not c.loop-i.first && b) (sym c.cuts_before.ensures) ∙ c.if-first-cuts_before.true)
 
 pub overflow_add-result : goal.overflow_add-result
 overflow_add-result c =
@@ -29,11 +26,10 @@ overflow_add-result c =
 
 pub returns-then-cuts_after : goal.returns-then-cuts_after
 returns-then-cuts_after c =
-    item_after _ _ _ _ _ _ c.loop-i.invariant c.loop-i-test.true _ c.entry_at-e.ensures (ap (λ (b : Bool). not c.loop-i.first && b) (sym c.cuts_before.ensures) ∙ c.if-first-cuts_before.false) (sym c.cuts_after.ensures ∙ c.if-cuts_after.true)
+    item_after _ _ _ _ _ _ c.loop-i.invariant c.loop-i-test.true _ c.entry_at.ensures (ap (λ (b : Bool). not c.loop-i.first && b) (sym c.cuts_before.ensures) ∙ c.if-first-cuts_before.false) (sym c.cuts_after.ensures ∙ c.if-cuts_after.true)
 
 pub depth_after-depth-requires : goal.depth_after-depth-requires
-depth_after-depth-requires c =
-    (held_at _ _ _ c.loop-i.invariant.holds c.loop-i-test.true c.entry_at-e.ensures, (let a = c.loop-i.invariant.fits in let b = c.loop-i.invariant.low in let d = c.args.run.ready.short in omega arith))
+depth_after-depth-requires c = (let a = c.loop-i.invariant.fits in let b = c.loop-i.invariant.low in let d = c.args.run.ready.short in omega arith)
 
 pub overflow_add-i : goal.overflow_add-i
 overflow_add-i c =
@@ -46,7 +42,7 @@ loop-i-smaller c = (let a = c.loop-i-test.true in omega arith)
 
 pub loop-i-preserved : goal.loop-i-preserved
 loop-i-preserved c =
-    item_turn _ _ _ _ _ _ c.loop-i.invariant c.loop-i-test.true _ c.entry_at-e.ensures (ap (λ (b : Bool). not c.loop-i.first && b) (sym c.cuts_before.ensures) ∙ c.if-first-cuts_before.false) (sym c.cuts_after.ensures ∙ c.if-cuts_after.false) c.depth_after-depth.ensures
+    item_turn _ _ _ _ _ _ c.loop-i.invariant c.loop-i-test.true _ c.entry_at.ensures (ap (λ (b : Bool). not c.loop-i.first && b) (sym c.cuts_before.ensures) ∙ c.if-first-cuts_before.false) (sym c.cuts_after.ensures ∙ c.if-cuts_after.false) c.depth_after-depth.ensures
 
 pub returns : goal.returns
 returns c = item_end_lem _ _ _ _ _ _ c.loop-i.invariant (omega (arith, c.loop-i-test.false))

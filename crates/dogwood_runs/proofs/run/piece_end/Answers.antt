@@ -6,8 +6,8 @@ use Rattle.dogwood_runs.proofs.run.piece_end.Goals as goal
 pub entry_at-requires : goal.entry_at-requires
 entry_at-requires c = entry_there _ _ 0 c.args.run.ready.holds c.requires
 
-pub opens-requires : goal.opens-requires
-opens-requires c = held_at _ _ 0 c.args.run.ready.holds c.requires c.entry_at.ensures
+pub invariant_of-first : goal.invariant_of-first
+invariant_of-first c = record { held = held_at _ _ 0 c.args.run.ready.holds c.requires c.entry_at.ensures }
 
 pub returns-then-opens : goal.returns-then-opens
 returns-then-opens c =

@@ -7,34 +7,34 @@ use Rattle.dogwood_runs.proofs.table.depth_after.Goals as goal
 pub returns-in-40 : goal.returns-in-40
 unfolding depth_after
 returns-in-40 c =
-    let o = opener_at c.requires.0 c.bytes.ensures in
-    let k = closer_at c.requires.0 c.bytes.ensures in
+    let o = opener_at c.args.token.held c.bytes.ensures in
+    let k = closer_at c.args.token.held c.bytes.ensures in
     grind (arith, nat_tests)
 
 pub returns-in-41 : goal.returns-in-41
 unfolding depth_after
 returns-in-41 c =
-    let o = opener_at c.requires.0 c.bytes.ensures in
-    let k = closer_at c.requires.0 c.bytes.ensures in
+    let o = opener_at c.args.token.held c.bytes.ensures in
+    let k = closer_at c.args.token.held c.bytes.ensures in
     grind (arith, nat_tests)
 
 pub returns-in_default : goal.returns-in_default
 unfolding depth_after
 returns-in_default c =
-    let o = opener_at c.requires.0 c.bytes.ensures in
-    let k = closer_at c.requires.0 c.bytes.ensures in
+    let o = opener_at c.args.token.held c.bytes.ensures in
+    let k = closer_at c.args.token.held c.bytes.ensures in
     grind (arith, nat_tests)
 
 pub returns-in_default-2 : goal.returns-in_default-2
 unfolding depth_after
 returns-in_default-2 c =
-    let o = opener_at c.requires.0 c.bytes.ensures in
-    let k = closer_at c.requires.0 c.bytes.ensures in
+    let o = opener_at c.args.token.held c.bytes.ensures in
+    let k = closer_at c.args.token.held c.bytes.ensures in
     grind (arith, nat_tests)
 
 pub returns-in_default-3 : goal.returns-in_default-3
 unfolding depth_after
 returns-in_default-3 c =
-    let o = opener_at c.requires.0 c.bytes.ensures in
-    let k = closer_at c.requires.0 c.bytes.ensures in
+    let o = opener_at c.args.token.held c.bytes.ensures in
+    let k = closer_at c.args.token.held c.bytes.ensures in
     grind (arith, nat_tests)
