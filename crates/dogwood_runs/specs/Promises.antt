@@ -64,10 +64,10 @@ pub filled_only : (table : List ℕ) (r r' : Bool) → FilledIs table r → Fill
 filled_only table r r' p q = p ∙ sym q
 
 -- r is how many words the item at the front has, cut by a set
-abbrev pub ItemIs : List ℕ → List ℕ → Option Separator → ℕ → Type 0
-ItemIs text table set r = r ≡ 3 * item_len true (set_number set) 0 (tokens text table)
+abbrev pub ItemIs : List ℕ → List ℕ → ℕ → ℕ → Type 0
+ItemIs text table set r = r ≡ 3 * item_len true set 0 (tokens text table)
 
-pub item_only : (text table : List ℕ) (set : Option Separator) (r r' : ℕ) → ItemIs text table set r → ItemIs text table set r' → r ≡ r'
+pub item_only : (text table : List ℕ) (set r r' : ℕ) → ItemIs text table set r → ItemIs text table set r' → r ≡ r'
 item_only text table set r r' p q = p ∙ sym q
 
 -- r is how many words the piece at the front has

@@ -4,6 +4,7 @@ ghost use Rattle.dogwood_layout.specs.View.{tokens};
 ghost use Rattle.dogwood_layout.specs.Shape.{Formed};
 ghost use Rattle.dogwood_layout.specs.Ends.{Whole, back_len};
 ghost use Rattle.dogwood_layout.specs.Scan.{group_len};
+ghost use Rattle.dogwood_runs.specs.Separators.{set_number};
 ghost use Rattle.dogwood_runs.specs.Promises.{LeadIs, TrimmedIs, FilledIs, ItemIs, PieceIs, SetIs};
 
 use crate::parts::{Run, Separator};
@@ -83,7 +84,7 @@ fn group_end(run: Run) -> usize
 
 // How many words the item at the front of a table has, cut by a set.
 pub fn item_end(run: Run, set: Option<Separator>) -> usize
-    ensures { ItemIs run.entry.text.now run.entry.table.now set result }
+    ensures { ItemIs run.entry.text.now run.entry.table.now (set_number set) result }
 {
     let mut first = true;
     let mut depth: usize = 0;
