@@ -20,7 +20,7 @@ fn put_told<W: Write>(told: Told, written: &[u8], out: &mut W) -> io::Result<()>
 }
 
 // The source has at most 4,096 bytes, so its tokens always fit, and 13 is never answered here. That the length answered is within the output is
-// promised too; `within` says it in the words that lending a part asks for.
+// promised too; `within` lends that part.
 fn run<W: Write>(source: &[u8], bytes: &[u8], outline: &mut [u32], out: &mut W) -> io::Result<()> {
     take_words(bytes, outline);
     let mut table = [0; 12288];

@@ -19,3 +19,6 @@ held n len = cond (ltb len n) 0 n
 -- no second answer keeps the promise of `within`
 pub within_only : (n len r r' : ℕ) → r ≡ held n len → r' ≡ held n len → r ≡ r'
 within_only n len r r' p q = p ∙ sym q
+
+pub front_only : (n : ℕ) (xs r r' : List ℕ) → r ≡ take (held n (length xs)) xs → r' ≡ take (held n (length xs)) xs → r ≡ r'
+front_only n xs r r' p q = p ∙ sym q
