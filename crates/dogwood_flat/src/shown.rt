@@ -6,8 +6,8 @@ ghost use Rattle.dogwood_rules.specs.Tree.{shown, joined};
 ghost use Rattle.dogwood_layout.specs.View.{token_of, tokens, Held};
 
 use dogwood_layout::Entry;
-use dogwood_rows::Kind;
-use dogwood_runs::{Run, entry_at};
+use dogwood_rows::{Kind, WORDS};
+use dogwood_runs::Run;
 use pen::{add, clip, put, put_all, put_line};
 
 // Writes one token, white space as one blank.
@@ -36,12 +36,10 @@ pub fn flat(out: &mut [u8], run: Run) -> usize
     ensures { Wrote out.old (encode (joined (tokens run.entry.text.now run.entry.table.now))) result out.new }
 {
     let mut n: usize = 0;
-    let mut i: usize = 0;
-    while i < run.table.len() {
-        let e = entry_at(run.table, i);
+    for &[kind, start, end] in run.table.as_chunks::<WORDS>().0 {
+        let e = Entry { kind, start, end };
         let at = clip(n, out.len());
         n = add(n, put_token(&mut out[at..], run.text, e));
-        i += 3;
     }
     n
 }
