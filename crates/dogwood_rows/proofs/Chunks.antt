@@ -1,5 +1,6 @@
 -- A list in pieces of one length, as std's `as_chunks` gives it.
 use mathlib.Core.Path.{◌≡◌, refl, sym, ◌∙◌, ap}
+use mathlib.Core.Bool.{Bool, cond}
 use mathlib.Core.List.{List, [], ◌∷◌}
 use Prim.Native.Nat.{ℕ, zero, suc, ◌+◌, ◌*◌, ◌/◌, ◌<◌, ◌≤◌}
 use native.Mathlib.Omega.{arith}
@@ -7,6 +8,7 @@ use lib.ListN.{length, get_or, take, drop, length-drop}
 use lib.Seq.{drop-drop}
 use Rattle.std.proofs.lemmas.List.{get_or-drop}
 use Rattle.std.specs.Simd.{first_chunks}
+use Rattle.std.specs.List.{prefix_len}
 
 pub chunk_at : (n m k : ℕ) (xs : List ℕ) → k < m → get_or (first_chunks n m xs) k [] ≡ take n (drop (n * k) xs)
 chunk_at n zero k xs h = absurd (omega arith)
@@ -58,3 +60,12 @@ module _ (ws : List ℕ) (k : ℕ) where
       let t = triple f n h in
       let z : 3 * k + 0 ≡ 3 * k = omega arith in
       (sym (ap (λ (l : List ℕ). get_or l 0 0) t) ∙ get_or-drop (3 * k) ws 0 0 ∙ ap (λ (i : ℕ). get_or ws i 0) z, sym (ap (λ (l : List ℕ). get_or l 1 0) t) ∙ get_or-drop (3 * k) ws 1 0, sym (ap (λ (l : List ℕ). get_or l 2 0) t) ∙ get_or-drop (3 * k) ws 2 0)
+
+-- what counts rows up to one that fails a test counts the pieces up to it
+module _ (p : List ℕ → Bool) (f : List ℕ → ℕ) (row : (k s e : ℕ) (ws : List ℕ) → f (k ∷ s ∷ e ∷ ws) ≡ cond (p (k ∷ s ∷ e ∷ [])) (1 + f ws) 0) (short : (ws : List ℕ) → length ws < 3 → f ws ≡ 0) where
+  pub counts : (m : ℕ) (ws : List ℕ) → m ≡ length ws / 3 → prefix_len p (first_chunks 3 m ws) ≡ f ws
+  counts zero ws h = sym (short ws (omega arith))
+  counts (suc m) [] h = absurd (omega arith)
+  counts (suc m) (k ∷ []) h = absurd (omega arith)
+  counts (suc m) (k ∷ s ∷ []) h = absurd (omega arith)
+  counts (suc m) (k ∷ s ∷ e ∷ ws) h = ap (λ (n : ℕ). cond (p (k ∷ s ∷ e ∷ [])) (1 + n) 0) (counts m ws (omega arith)) ∙ sym (row k s e ws)
