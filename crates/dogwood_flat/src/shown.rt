@@ -3,11 +3,10 @@ ghost use Rattle.std.specs.Prelude.{◌∷◌, ◌++◌, replicate};
 ghost use Rattle.pen.specs.Over.{Wrote};
 ghost use Rattle.dogwood_rules.specs.Utf8.{encode};
 ghost use Rattle.dogwood_rules.specs.Tree.{shown, joined};
-ghost use Rattle.dogwood_layout.specs.View.{token_of, tokens};
+ghost use Rattle.dogwood_layout.specs.View.{token_of, tokens, Holds};
 
-use dogwood_layout::Lexeme;
-use dogwood_rows::Kind;
-use dogwood_runs::{Run, entry_at};
+use dogwood_layout::{Entry, Lexeme};
+use dogwood_rows::{Kind, WORDS};
 use pen::{add, clip, put, put_all, put_line};
 
 // Writes one token, white space as one blank.
@@ -29,20 +28,16 @@ pub fn put_closing(out: &mut [u8], token: Lexeme, n: usize) -> usize
     add(a, put_token(&mut out[at..], token))
 }
 
-// Writes a run's tokens, each white-space token as one blank.
-pub fn flat(out: &mut [u8], run: Run) -> usize
-    ensures { Wrote out.old (encode (joined (tokens run.entry.text.now run.entry.table.now))) result out.new }
+// Writes a table's tokens, each white-space token as one blank.
+pub fn flat(out: &mut [u8], text: &[u8], table: &[u32]) -> usize
+    requires { Holds text.now table.now }
+    ensures { Wrote out.old (encode (joined (tokens text.now table.now))) result out.new }
 {
     let mut n: usize = 0;
-    let mut i: usize = 0;
-    while i < run.table.len() {
-        let token = Lexeme {
-            text: run.text,
-            row: entry_at(run.table, i),
-        };
+    for &[kind, start, end] in table.as_chunks::<WORDS>().0 {
+        let row = Entry { kind, start, end };
         let at = clip(n, out.len());
-        n = add(n, put_token(&mut out[at..], token));
-        i += 3;
+        n = add(n, put_token(&mut out[at..], Lexeme { text, row }));
     }
     n
 }

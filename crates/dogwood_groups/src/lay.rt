@@ -35,7 +35,7 @@ pub fn lay_out(out: &mut [u8], run: Run, page: Page, depth: usize) -> usize
     let margin = page.indent * depth;
     let span = measure(inner, margin);
     if margin + span.width <= page.width {
-        return flat(out, inner);
+        return flat(out, inner.text, inner.table);
     }
     lay_run(out, inner, page, depth, margin + t.start / 3, span.width)
 }
@@ -88,14 +88,14 @@ fn lay_piece(
 {
     if run.table.len() == 3 {
         return Laid {
-            count: flat(out, run),
+            count: flat(out, run.text, run.table),
             col: span.col,
         };
     }
     let end = run.table.len() - 3;
     if !filled(&run.table[3..end]) | (col + span.width + follow <= page.width) {
         return Laid {
-            count: flat(out, run),
+            count: flat(out, run.text, run.table),
             col: span.col,
         };
     }

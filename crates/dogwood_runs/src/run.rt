@@ -10,21 +10,16 @@ ghost use Rattle.dogwood_runs.specs.Promises.{LeadIs, TrimmedIs, FilledIs, ItemI
 use crate::parts::{Run, Separator};
 use crate::table::{cuts_after, cuts_before, depth_after, entry_at, opens};
 use dogwood_layout::{Lexeme, Part};
-use dogwood_rows::Kind;
+use dogwood_rows::{Kind, WORDS};
 
 // How many words of white space stand at the front of a table.
 pub fn lead(table: &[u32]) -> usize
     requires { Whole table.now }
     ensures { LeadIs table.now result }
 {
-    let mut i: usize = 0;
-    while i < table.len() {
-        if table[i] != Kind::Whitespace as u32 {
-            break;
-        }
-        i += 3;
-    }
-    i
+    let rows = table.as_chunks::<WORDS>().0.iter();
+    let blanks = rows.take_while(|row| row[0] == Kind::Whitespace as u32);
+    WORDS * blanks.count()
 }
 
 // How many words of a table are left without the white space at its end.

@@ -1,58 +1,14 @@
--- A list in pieces of one length, as std's `as_chunks` gives it.
+-- The ends of a list's pieces: no row and no span is behind them.
 use Rattle.std.specs.Prelude.{None}
-use mathlib.Core.Path.{◌≡◌, refl, sym, ◌∙◌, ap}
+use mathlib.Core.Path.{◌≡◌, refl, ap}
 use mathlib.Core.List.{List, [], ◌∷◌}
-use Prim.Native.Nat.{ℕ, zero, suc, ◌+◌, ◌*◌, ◌/◌, ◌<◌, ◌≤◌}
+use Prim.Native.Nat.{ℕ, ◌*◌, ◌/◌, ◌<◌, ◌≤◌}
 use native.Mathlib.Omega.{arith}
-use lib.ListN.{length, get_or, take, drop, length-drop}
-use lib.Seq.{drop-drop}
-use Rattle.std.specs.Simd.{first_chunks}
+use lib.ListN.{length, drop, length-drop}
 use Rattle.dogwood_words.specs.Rows.{row_of}
 use Rattle.dogwood_words.specs.Records.{spans_in}
 
-pub chunk_at : (n m k : ℕ) (xs : List ℕ) → k < m → get_or (first_chunks n m xs) k [] ≡ take n (drop (n * k) xs)
-chunk_at n zero k xs h = absurd (omega arith)
-chunk_at n (suc m) zero xs h = let e : 0 ≡ n * 0 = omega arith in ap (λ (a : ℕ). take n (drop a xs)) e
-chunk_at n (suc m) (suc k) xs h =
-    let e : n + n * k ≡ n * suc k = omega arith in
-    chunk_at n m k (drop n xs) (omega arith) ∙ ap (take n) (drop-drop (n * k) n xs ∙ ap (λ (a : ℕ). drop a xs) e)
-
 module _ (ws : List ℕ) (k : ℕ) where
-  -- a piece of three, and the words behind it
-  pub triple : {xs : List (List ℕ)} → xs ≡ first_chunks 3 (length ws / 3) ws → length xs ≡ length ws / 3 → k < length xs
-      → drop (3 * k) ws ≡ get_or (get_or xs k []) 0 0 ∷ get_or (get_or xs k []) 1 0 ∷ get_or (get_or xs k []) 2 0 ∷ drop (3 * (k + 1)) ws
-  triple {xs} f n h = by (drop (3 * k) ws) refl
-    where
-      x : List ℕ
-      x = get_or xs k []
-
-      by : (l : List ℕ) → drop (3 * k) ws ≡ l → drop (3 * k) ws ≡ get_or x 0 0 ∷ get_or x 1 0 ∷ get_or x 2 0 ∷ drop (3 * (k + 1)) ws
-      by [] q = let a = length-drop (3 * k) ws in let b = ap length q in absurd (omega arith)
-      by (a ∷ []) q = let a' = length-drop (3 * k) ws in let b = ap length q in absurd (omega arith)
-      by (a ∷ b ∷ []) q = let a' = length-drop (3 * k) ws in let b' = ap length q in absurd (omega arith)
-      by (a ∷ b ∷ c ∷ t) q =
-          let y : x ≡ a ∷ b ∷ c ∷ [] = ap (λ (l : List (List ℕ)). get_or l k []) f ∙ chunk_at 3 (length ws / 3) k ws (omega arith) ∙ ap (take 3) q in
-          let j : 3 * k + 3 ≡ 3 * (k + 1) = omega arith in
-          let u : t ≡ drop (3 * (k + 1)) ws = sym (ap (drop 3) q) ∙ drop-drop 3 (3 * k) ws ∙ ap (λ (n : ℕ). drop n ws) j in
-          q ∙ (λ i. get_or (sym y i) 0 0 ∷ get_or (sym y i) 1 0 ∷ get_or (sym y i) 2 0 ∷ u i)
-
-  -- a piece of two, and the words behind it
-  pub pair : {xs : List (List ℕ)} → xs ≡ first_chunks 2 (length ws / 2) ws → length xs ≡ length ws / 2 → k < length xs
-      → drop (2 * k) ws ≡ get_or (get_or xs k []) 0 0 ∷ get_or (get_or xs k []) 1 0 ∷ drop (2 * (k + 1)) ws
-  pair {xs} f n h = by (drop (2 * k) ws) refl
-    where
-      x : List ℕ
-      x = get_or xs k []
-
-      by : (l : List ℕ) → drop (2 * k) ws ≡ l → drop (2 * k) ws ≡ get_or x 0 0 ∷ get_or x 1 0 ∷ drop (2 * (k + 1)) ws
-      by [] q = let a = length-drop (2 * k) ws in let b = ap length q in absurd (omega arith)
-      by (a ∷ []) q = let a' = length-drop (2 * k) ws in let b = ap length q in absurd (omega arith)
-      by (a ∷ b ∷ t) q =
-          let y : x ≡ a ∷ b ∷ [] = ap (λ (l : List (List ℕ)). get_or l k []) f ∙ chunk_at 2 (length ws / 2) k ws (omega arith) ∙ ap (take 2) q in
-          let j : 2 * k + 2 ≡ 2 * (k + 1) = omega arith in
-          let u : t ≡ drop (2 * (k + 1)) ws = sym (ap (drop 2) q) ∙ drop-drop 2 (2 * k) ws ∙ ap (λ (n : ℕ). drop n ws) j in
-          q ∙ (λ i. get_or (sym y i) 0 0 ∷ get_or (sym y i) 1 0 ∷ u i)
-
   -- no row behind the last piece
   pub pieces_end : length ws / 3 ≤ k → None ≡ row_of (3 * k) (drop (3 * k) ws)
   pieces_end h = by (drop (3 * k) ws) (let a = length-drop (3 * k) ws in omega arith)

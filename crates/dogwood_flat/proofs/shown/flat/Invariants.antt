@@ -1,11 +1,8 @@
 use mathlib.Core.Path.{◌≡◌}
-use Prim.Native.Nat.{◌-◌}
+use Prim.Native.Nat.{◌*◌}
 use lib.ListN.{length}
 use Rattle.dogwood_layout.proofs.Loops.{FlatAt}
 use Rattle.dogwood_flat.proofs.shown.flat.Given as goal
 
-abbrev pub invariant-loop-i : goal.invariant-loop-i
-invariant-loop-i l = (length l.out ≡ length l.initial.out) × FlatAt l.run.text.now l.run.table.now l.initial.out l.out l.n l.i
-
-abbrev pub decreases-loop-i : goal.decreases-loop-i
-decreases-loop-i l = length l.run.table.now - l.i
+abbrev pub invariant-loop-kind : goal.invariant-loop-kind
+invariant-loop-kind l = (length l.out ≡ length l.initial.out) × FlatAt l.text l.table l.initial.out l.out l.n (3 * l.kind-index)

@@ -1,6 +1,7 @@
 use mathlib.Core.Path.{◌∙◌}
 use native.Mathlib.Omega.{arith}
-use Rattle.dogwood_words.proofs.Chunks.{pair, pairs_end}
+use Rattle.dogwood_rows.proofs.Chunks.{pair}
+use Rattle.dogwood_words.proofs.Chunks.{pairs_end}
 use Rattle.dogwood_outline.proofs.PartTurns.{left_empty, left_gap, left_part, left_on, left_end, left_unseen}
 use Rattle.dogwood_outline.proofs.fitting.parts.Goals as goal
 

@@ -1,25 +1,14 @@
-use native.Mathlib.Omega.{arith}
-use borrow.Author.Rules.{rules}
-use Rattle.dogwood_layout.proofs.Ends.{lead_start, lead_there, lead_turn, lead_stop, lead_end}
+use Rattle.std.proofs.Common.{eqb, get_or, ◌*◌, ◌∙◌, ap, rules, tests, List, ℕ, Bool}
+use Rattle.std.proofs.lemmas.Iterator.{YieldsList-from_slice}
+use Rattle.std.proofs.lemmas.Iterator.Consumers.{count_from_yields_List}
+use Rattle.std.proofs.lemmas.Iterator.Search.{YieldsList-from_take_while}
+use Rattle.std.proofs.lemmas.List.Folds.{length-prefix_len}
+use Rattle.dogwood_runs.proofs.Pieces.{front_pieces}
 use Rattle.dogwood_runs.proofs.run.lead.Goals as goal
 
-pub loop-i-init : goal.loop-i-init
-loop-i-init c = lead_start _ c.requires
-
-pub overflow_add-i : goal.overflow_add-i
-overflow_add-i c =
-    let a = lead_there _ _ c.loop-i.invariant c.loop-i-test.true in
-    let g = c.well_formed in
-    search rules
-
-pub loop-i-smaller : goal.loop-i-smaller
-loop-i-smaller c = (let a = c.loop-i-test.true in omega arith)
-
-pub loop-i-preserved : goal.loop-i-preserved
-loop-i-preserved c = lead_turn _ _ c.loop-i.invariant c.loop-i-test.true (omega arith)
-
-pub returns-after-loop-i : goal.returns-after-loop-i
-returns-after-loop-i c = lead_end _ _ c.loop-i.invariant (omega (arith, c.loop-i-test.false))
-
-pub returns-then-table-i : goal.returns-then-table-i
-returns-then-table-i c = lead_stop _ _ c.loop-i.invariant c.loop-i-test.true c.if-table-i.true
+pub returns : goal.returns
+returns c =
+    let s : List (List ℕ) = c.as_chunks.result.0.now in
+    let t : List ℕ → Bool = λ r. eqb (get_or r 0 0) 0 in
+    let n = count_from_yields_List c.take_while-blanks.result _ c.count.ensures.ran (YieldsList-from_take_while _ t (YieldsList-from_slice s cc) c.take_while-blanks.ensures.closure c.take_while-blanks.ensures.done (λ x b q k. search (rules, tests))) in
+    ap (λ (m : ℕ). 3 * m) (n ∙ length-prefix_len t s ∙ front_pieces c.args.table.now c.as_chunks.ensures.front)

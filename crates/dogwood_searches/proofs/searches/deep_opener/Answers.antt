@@ -3,7 +3,8 @@ use mathlib.Core.Path.{ap, ◌∙◌}
 use native.Mathlib.Omega.{arith}
 use lib.ListN.{drop}
 use Rattle.dogwood_words.specs.Search.{found_of}
-use Rattle.dogwood_words.proofs.Chunks.{triple, pieces_end}
+use Rattle.dogwood_rows.proofs.Chunks.{triple}
+use Rattle.dogwood_words.proofs.Chunks.{pieces_end}
 use Rattle.dogwood_searches.specs.Searches.{deep_in}
 use Rattle.dogwood_searches.proofs.TableSearch.{deep_done, deep_here, deep_open, deep_close, deep_on}
 use Rattle.dogwood_searches.proofs.searches.deep_opener.Goals.{then-opens+else-depth-eq-DEEPEST, else-opens+then-closes, else-opens+else-closes}
