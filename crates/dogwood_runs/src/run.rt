@@ -9,7 +9,7 @@ ghost use Rattle.dogwood_runs.specs.Promises.{LeadIs, TrimmedIs, FilledIs, ItemI
 
 use crate::parts::{Run, Separator};
 use crate::table::{cuts_after, cuts_before, depth_after, entry_at, opens};
-use dogwood_layout::{Lexeme, Part};
+use dogwood_layout::{Entry, Lexeme, Part};
 use dogwood_rows::{Kind, WORDS};
 
 // How many words of white space stand at the front of a table.
@@ -62,19 +62,18 @@ fn group_end(run: Run) -> usize
     ensures { result ≡ 3 * group_len 0 (tokens run.entry.text.now run.entry.table.now) }
 {
     let mut depth: usize = 0;
-    let mut i: usize = 0;
-    while i < run.table.len() {
+    let rows = run.table.as_chunks::<WORDS>().0;
+    for (k, &[kind, start, end]) in rows.iter().enumerate() {
         let token = Lexeme {
             text: run.text,
-            row: entry_at(run.table, i),
+            row: Entry { kind, start, end },
         };
         depth = depth_after(token, depth);
-        i += 3;
         if depth == 0 {
-            break;
+            return WORDS * (k + 1);
         }
     }
-    i
+    run.table.len()
 }
 
 // How many words the item at the front of a table has, cut by a set.
@@ -83,23 +82,22 @@ pub fn item_end(run: Run, set: Option<Separator>) -> usize
 {
     let mut first = true;
     let mut depth: usize = 0;
-    let mut i: usize = 0;
-    while i < run.table.len() {
+    let rows = run.table.as_chunks::<WORDS>().0;
+    for (k, &[kind, start, end]) in rows.iter().enumerate() {
         let token = Lexeme {
             text: run.text,
-            row: entry_at(run.table, i),
+            row: Entry { kind, start, end },
         };
         if !first & cuts_before(token, set, depth) {
-            return i;
+            return WORDS * k;
         }
         if cuts_after(token, set, depth) {
-            return i + 3;
+            return WORDS * k + WORDS;
         }
         depth = depth_after(token, depth);
         first = false;
-        i += 3;
     }
-    i
+    run.table.len()
 }
 
 // How many words the piece at the front of a table has: a token, or a group.
