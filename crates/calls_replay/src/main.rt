@@ -23,27 +23,43 @@ fn put_call<W: Write>(told: Told, output: &[u8], table: &[u32], out: &mut W) -> 
     put_line(out, table)
 }
 
+// Reads the source and the outline of a record and runs it.
+fn run_record<R: Read, W: Write>(
+    input: &mut R,
+    size: usize,
+    outline: &mut [u32],
+    table: &mut [u32],
+    output: &mut [u8],
+    out: &mut W,
+) -> io::Result<()> {
+    let mut bytes = [0; 65536];
+    let source = read_source(input, size, &mut bytes);
+    let mut bytes = [0; 16384];
+    take_words(next_part(input, 4 * outline.len(), &mut bytes), outline);
+    let told = Told::from(format_policies(source, outline, table, output));
+    put_call(told, output, table, out)
+}
+
 // Reads one record and runs it; answers false where there is none, or one that is too large.
 fn run<R: Read, W: Write>(input: &mut R, out: &mut W) -> io::Result<bool> {
     let Some(head) = read_words::<4, _>(input) else {
         return Ok(false);
     };
     let [size, count, words, room] = head.map(|word| word as usize);
+    if 4096 < count || 24576 < words || 65536 < room {
+        return Ok(false);
+    }
     let mut outline = [0; 4096];
     let mut table = [u32::MAX; 24576];
     let mut output = [b'~'; 65536];
-    if outline.len() < count || table.len() < words || output.len() < room {
-        return Ok(false);
-    }
-    let outline = &mut outline[..count];
-    let table = &mut table[..words];
-    let output = &mut output[..room];
-    let mut bytes = [0; 65536];
-    let source = read_source(input, size, &mut bytes);
-    let mut bytes = [0; 16384];
-    take_words(next_part(input, 4 * count, &mut bytes), outline);
-    let told = Told::from(format_policies(source, outline, table, output));
-    put_call(told, output, table, out)?;
+    run_record(
+        input,
+        size,
+        &mut outline[..count],
+        &mut table[..words],
+        &mut output[..room],
+        out,
+    )?;
     Ok(true)
 }
 

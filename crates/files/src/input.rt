@@ -32,24 +32,33 @@ fn fill<R: Read>(input: &mut R, buf: &mut [u8]) -> Result<usize, usize>
 }
 
 // Fills buf, or less of it where the input ends or a read fails, and answers how many bytes now stand at its start.
-pub fn read_part<R: Read>(input: &mut R, buf: &mut [u8]) -> usize
-    ensures prefix_len { IsPrefixLen result buf.new }
-    ensures taken { Consumes (R.remaining input.old) (R.remaining input.new) (take result buf.new) }
+pub(crate) fn read_into<R: Read>(input: &mut R, buf: &mut [u8]) -> usize
+    ensures { Filled (R.remaining input.old) (R.remaining input.new) buf.new result }
 {
     match fill(input, buf) {
         Ok(len) | Err(len) => len,
     }
 }
 
+// Reads n bytes to the start of buf, or fewer where the input ends or a read fails, and answers how many; 0 where buf is too short.
+pub fn read_part<R: Read>(input: &mut R, buf: &mut [u8], n: usize) -> usize
+    ensures prefix_len { IsPrefixLen result buf.new }
+    ensures taken { Consumes (R.remaining input.old) (R.remaining input.new) (take result buf.new) }
+    ensures at_most { result ≤ n }
+{
+    if buf.len() < n {
+        return 0;
+    }
+    read_into(input, &mut buf[..n])
+}
+
 // The next n bytes, or fewer where the input ends or a read fails, by way of a buffer. There are none where it is too short for n.
 pub fn next_part<'a, R: Read>(input: &mut R, n: usize, buf: &'a mut [u8]) -> &'a [u8]
     ensures at_most { length result.now ≤ n }
+    ensures within { length result.now ≤ length buf.old }
     ensures taken { Consumes (R.remaining input.old) (R.remaining input.new) result.now }
 {
-    if buf.len() < n {
-        return &[];
-    }
-    let len = read_part(input, &mut buf[..n]);
+    let len = read_part(input, buf, n);
     &buf[..len]
 }
 

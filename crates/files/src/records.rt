@@ -3,8 +3,9 @@ ghost use Rattle.std.specs.Prelude.{IfErr, MatchOption, OnOk};
 ghost use Rattle.files.specs.Replays.{Ended, Failed, Replayed, Stopped};
 ghost use Rattle.files.specs.Word.{BeginsWith, EndsBefore};
 
-use crate::input::{open_arg, read_part};
+use crate::input::{open_arg, read_into};
 use crate::output::put_text;
+use crate::words::take_words;
 use std::io;
 use std::io::{Read, Write};
 use std::rt::{Env, Files};
@@ -13,14 +14,14 @@ use std::rt::{Env, Files};
 pub fn read_words<const N: usize, R: Read>(input: &mut R) -> Option<[u32; N]>
     ensures { MatchOption result (EndsBefore (R.remaining input.old) (R.remaining input.new) N) (BeginsWith (R.remaining input.old) (R.remaining input.new) N) }
 {
-    let mut words = [0; N];
-    for word in &mut words {
-        let mut bytes = [0; 4];
-        if read_part(input, &mut bytes) < 4 {
-            return None;
-        }
-        *word = u32::from_le_bytes(bytes);
+    // all at once, for each read asks the system
+    let mut bytes = [[0; 4]; N];
+    let bytes = bytes.as_flattened_mut();
+    if read_into(input, bytes) < bytes.len() {
+        return None;
     }
+    let mut words = [0; N];
+    take_words(bytes, &mut words);
     Some(words)
 }
 
