@@ -11,7 +11,7 @@ ghost use Rattle.dogwood_layout.specs.Pieces.{settings, Bounded, WroteText, Meas
 
 use dogwood_flat::{flat, measure, put_closing, put_token};
 use dogwood_layout::{Lexeme, Page, Span};
-use dogwood_runs::{Run, entry_at, filled, item_end, lead, piece_end, split_items, trimmed};
+use dogwood_runs::{Run, entry_at, filled, item_end_by, lead, piece_end, split_items, trimmed};
 use pen::{add, clip, put_line};
 
 // How many bytes a piece has, and the column behind it.
@@ -145,7 +145,7 @@ fn lay_items(out: &mut [u8], run: Run, page: Page, depth: usize) -> usize
             text: run.text,
             table: &run.table[i..],
         };
-        let m = item_end(left, set);
+        let m = item_end_by(left, set);
         let item = Run {
             text: run.text,
             table: &run.table[i..i + m],

@@ -1,5 +1,5 @@
 -- An entry of a table as a piece of three words, as std's `as_chunks` gives it.
-use mathlib.Core.Path.{◌≡◌, refl, ◌∙◌, ap}
+use mathlib.Core.Path.{◌≡◌, refl}
 use mathlib.Core.Bool.{Bool, true, false, cond}
 use mathlib.Core.List.{List, [], ◌∷◌}
 use Prim.Native.Nat.{ℕ, ◌+◌, ◌*◌, ◌/◌, ◌<◌, ◌≤◌}
@@ -8,9 +8,9 @@ use lib.Dec.{eqb}
 use lib.ListN.{length, get_or}
 use Rattle.std.specs.List.{prefix_len}
 use Rattle.std.specs.Simd.{first_chunks}
-use Rattle.dogwood_rows.proofs.Chunks.{triple_words, counts}
+use Rattle.dogwood_rows.proofs.Chunks.{triple_words}
 use Rattle.dogwood_layout.specs.declared.Entry.{Entry}
-use Rattle.dogwood_layout.specs.View.{entry_at, Holds}
+use Rattle.dogwood_layout.specs.View.{entry_at, rows, Holds}
 use Rattle.dogwood_layout.specs.Ends.{front_step, front_len}
 use Rattle.dogwood_layout.proofs.Tables.{holds_length}
 
@@ -35,20 +35,22 @@ module _ (ws : List ℕ) (k : ℕ) where
 pub piece_next : (k : ℕ) → 3 * k + 3 ≡ 3 * (k + 1)
 piece_next k = omega arith
 
--- white space at the front, by pieces
-pub front_pieces : (ws : List ℕ) {xs : List (List ℕ)} → xs ≡ first_chunks 3 (length ws / 3) ws → prefix_len (λ x. eqb (get_or x 0 0) 0) xs ≡ front_len ws
-unfolding front_len
-front_pieces ws f = ap (prefix_len (λ x. eqb (get_or x 0 0) 0)) f ∙ counts (λ x. eqb (get_or x 0 0) 0) front_len row short (length ws / 3) ws refl
+-- white space at the front, by entries
+pub front_entries : (ws : List ℕ) → prefix_len (λ (e : Entry). eqb e.kind 0) (rows ws) ≡ front_len ws
+unfolding rows front_len
+front_entries [] = refl
+front_entries (k ∷ []) = refl
+front_entries (k ∷ s ∷ []) = refl
+front_entries (k ∷ s ∷ e ∷ ws) = step (eqb k 0) (front_entries ws)
   where
-    step : (b : Bool) (n : ℕ) → front_step b n ≡ cond b (1 + n) 0
-    step true n = omega arith
-    step false n = refl
+    step : (b : Bool) {m n : ℕ} → m ≡ n → cond b (1 + m) 0 ≡ front_step b n
+    step true q = let p = q in omega arith
+    step false q = refl
 
-    row : (k s e : ℕ) (ws : List ℕ) → front_len (k ∷ s ∷ e ∷ ws) ≡ cond (eqb k 0) (1 + front_len ws) 0
-    row k s e ws = step (eqb k 0) (front_len ws)
-
-    short : (ws : List ℕ) → length ws < 3 → front_len ws ≡ 0
-    short [] h = refl
-    short (k ∷ []) h = refl
-    short (k ∷ s ∷ []) h = refl
-    short (k ∷ s ∷ e ∷ ws) h = absurd (omega arith)
+-- an entry has three words
+pub entries_few : (ws : List ℕ) → 3 * length (rows ws) ≤ length ws
+unfolding rows
+entries_few [] = omega arith
+entries_few (k ∷ []) = omega arith
+entries_few (k ∷ s ∷ []) = omega arith
+entries_few (k ∷ s ∷ e ∷ ws) = let h = entries_few ws in omega arith

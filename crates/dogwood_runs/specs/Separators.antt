@@ -1,5 +1,5 @@
 -- The separator sets of the code and the numbers that the layout speaks of them by.
-use Rattle.std.specs.Prelude.{◌≡◌, refl, ℕ, Option, Some, None}
+use Rattle.std.specs.Prelude.{◌≡◌, refl, ℕ, zero, suc, Option, Some, None}
 use Rattle.dogwood_runs.specs.declared.parts.Separator.{Separator}
 use Rattle.dogwood_runs.specs.declared.parts.Separator.TheVariants.{Comma, AndOr}
 
@@ -8,6 +8,12 @@ abbrev pub set_number : Option Separator → ℕ
 set_number (Some Comma) = 0
 set_number (Some AndOr) = 1
 set_number None = 2
+
+-- the set of a number
+abbrev pub set_numbered : ℕ → Option Separator
+set_numbered zero = Some Comma
+set_numbered (suc zero) = Some AndOr
+set_numbered (suc (suc n)) = None
 
 -- no two sets have one number
 pub set_same : (a b : Option Separator) → set_number a ≡ set_number b → a ≡ b

@@ -9,5 +9,5 @@ mod table;
 
 pub use entries::Entries;
 pub use parts::{Run, Separator};
-pub use run::{filled, item_end, lead, piece_end, split_items, trimmed};
+pub use run::{filled, item_end, item_end_by, lead, piece_end, split_items, trimmed};
 pub use table::entry_at;

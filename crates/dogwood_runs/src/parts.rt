@@ -16,3 +16,19 @@ pub enum Separator {
     Comma,
     AndOr,
 }
+
+impl Separator {
+    ghost use Rattle.std.specs.Prelude.{◌≡◌};
+    ghost use Rattle.dogwood_runs.specs.Separators.{set_numbered};
+
+    // The set of a number.
+    pub fn numbered(number: usize) -> Option<Separator>
+        ensures { result ≡ set_numbered number }
+    {
+        match number {
+            0 => Some(Separator::Comma),
+            1 => Some(Separator::AndOr),
+            _ => None,
+        }
+    }
+}

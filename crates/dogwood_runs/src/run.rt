@@ -7,6 +7,7 @@ ghost use Rattle.dogwood_layout.specs.Scan.{group_len};
 ghost use Rattle.dogwood_runs.specs.Separators.{set_number};
 ghost use Rattle.dogwood_runs.specs.Promises.{LeadIs, TrimmedIs, FilledIs, ItemIs, PieceIs, SetIs};
 
+use crate::entries::Entries;
 use crate::parts::{Run, Separator};
 use crate::table::{cuts_after, cuts_before, depth_after, entry_at, opens};
 use dogwood_layout::{Entry, Lexeme, Part};
@@ -17,8 +18,7 @@ pub fn lead(table: &[u32]) -> usize
     requires { Whole table.now }
     ensures { LeadIs table.now result }
 {
-    let rows = table.as_chunks::<WORDS>().0.iter();
-    let blanks = rows.take_while(|row| row[0] == Kind::Whitespace as u32);
+    let blanks = Entries::of(table).take_while(|row| row.kind == Kind::Whitespace as u32);
     WORDS * blanks.count()
 }
 
@@ -77,7 +77,7 @@ fn group_end(run: Run) -> usize
 }
 
 // How many words the item at the front of a table has, cut by a set.
-pub fn item_end(run: Run, set: Option<Separator>) -> usize
+pub fn item_end_by(run: Run, set: Option<Separator>) -> usize
     ensures { ItemIs run.entry.text.now run.entry.table.now (set_number set) result }
 {
     let mut first = true;
@@ -98,6 +98,13 @@ pub fn item_end(run: Run, set: Option<Separator>) -> usize
         first = false;
     }
     run.table.len()
+}
+
+// The same, by the number of a set. No set has a number above 1, and none cuts.
+pub fn item_end(run: Run, set: usize) -> usize
+    ensures { ItemIs run.entry.text.now run.entry.table.now set result }
+{
+    item_end_by(run, Separator::numbered(set))
 }
 
 // How many words the piece at the front of a table has: a token, or a group.
@@ -129,7 +136,7 @@ pub fn split_items(run: Run) -> Option<Separator>
                 text: run.text,
                 table: &run.table[i..],
             };
-            let m = item_end(rest, Some(set));
+            let m = item_end_by(rest, Some(set));
             found += usize::from(filled(&run.table[i..i + m]));
             if 1 < found {
                 chosen = Some(set);

@@ -122,34 +122,34 @@ lay_items-loop-i-init t c =
 
 pub lay_items-overflow_add-item : goal.lay_items-overflow_add-item
 lay_items-overflow_add-item t c =
-    let h = (item_here _ _ _ _ _ c.loop-i.invariant.1.at c.loop-i-test.true c.item_end-m.ensures).fits in
+    let h = (item_here _ _ _ _ _ c.loop-i.invariant.1.at c.loop-i-test.true c.item_end_by-m.ensures).fits in
     let s = c.args.run.ready.short in
     omega arith
 
 pub lay_items-slice_bounds-item-end : goal.lay_items-slice_bounds-item-end
 lay_items-slice_bounds-item-end t c =
-    (item_here _ _ _ _ _ c.loop-i.invariant.1.at c.loop-i-test.true c.item_end-m.ensures).fits
+    (item_here _ _ _ _ _ c.loop-i.invariant.1.at c.loop-i-test.true c.item_end_by-m.ensures).fits
 
 pub lay_items-invariant_of-item : goal.lay_items-invariant_of-item
 lay_items-invariant_of-item t c =
-    let h = (item_here _ _ _ _ _ c.loop-i.invariant.1.at c.loop-i-test.true c.item_end-m.ensures) in
+    let h = (item_here _ _ _ _ _ c.loop-i.invariant.1.at c.loop-i-test.true c.item_end_by-m.ensures) in
     record { ready = ready_part _ _ _ _ h.count c.args.run.ready c.loop-i.invariant.1.at.holds h.words }
 
 pub lay_items-lay_item-requires : goal.lay_items-lay_item-requires
 lay_items-lay_item-requires t c =
-    let h = (item_here _ _ _ _ _ c.loop-i.invariant.1.at c.loop-i-test.true c.item_end-m.ensures) in
-    ((let f = h.fits in let l = length_part c.args.run.table.now c.loop-i.i c.item_end-m.result f in omega (arith, c.decreases)), (formed_from h.first.head_shaped h.head_tokens, bounded_part _ _ _ _ _ c.requires.1 h.fits))
+    let h = (item_here _ _ _ _ _ c.loop-i.invariant.1.at c.loop-i-test.true c.item_end_by-m.ensures) in
+    ((let f = h.fits in let l = length_part c.args.run.table.now c.loop-i.i c.item_end_by-m.result f in omega (arith, c.decreases)), (formed_from h.first.head_shaped h.head_tokens, bounded_part _ _ _ _ _ c.requires.1 h.fits))
 
 pub lay_items-loop-i-smaller : goal.lay_items-loop-i-smaller
 lay_items-loop-i-smaller t c =
-    let h = (item_here _ _ _ _ _ c.loop-i.invariant.1.at c.loop-i-test.true c.item_end-m.ensures) in
+    let h = (item_here _ _ _ _ _ c.loop-i.invariant.1.at c.loop-i-test.true c.item_end_by-m.ensures) in
     let a = h.some in
     let b = h.fits in
     omega arith
 
 pub lay_items-loop-i-preserved : goal.lay_items-loop-i-preserved
 lay_items-loop-i-preserved t c =
-    let g = lines_turn _ _ _ _ c.loop-i.invariant.1 (item_here _ _ _ _ _ c.loop-i.invariant.1.at c.loop-i-test.true c.item_end-m.ensures) c.clip-at.ensures.place (omega (arith, c.loop-i.invariant.0, c.well_formed.0.1)) c.lay_item.ensures c.add-n.ensures.sum in
+    let g = lines_turn _ _ _ _ c.loop-i.invariant.1 (item_here _ _ _ _ _ c.loop-i.invariant.1.at c.loop-i-test.true c.item_end_by-m.ensures) c.clip-at.ensures.place (omega (arith, c.loop-i.invariant.0, c.well_formed.0.1)) c.lay_item.ensures c.add-n.ensures.sum in
     (wrote-length g.wrote, g)
 
 pub lay_items-returns : goal.lay_items-returns

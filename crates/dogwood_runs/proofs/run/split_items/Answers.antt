@@ -24,21 +24,21 @@ slice_bounds-rest-start c = c.loop-i.invariant.1.at.fits
 
 pub overflow_add-i : goal.overflow_add-i
 overflow_add-i c =
-    let h = (item_here _ _ _ _ _ c.loop-i.invariant.1.at c.loop-i-test.true c.item_end-m.ensures).fits in
+    let h = (item_here _ _ _ _ _ c.loop-i.invariant.1.at c.loop-i-test.true c.item_end_by-m.ensures).fits in
     let s = c.args.run.ready.short in
     omega arith
 
 pub slice_bounds-filled-end : goal.slice_bounds-filled-end
-slice_bounds-filled-end c = (item_here _ _ _ _ _ c.loop-i.invariant.1.at c.loop-i-test.true c.item_end-m.ensures).fits
+slice_bounds-filled-end c = (item_here _ _ _ _ _ c.loop-i.invariant.1.at c.loop-i-test.true c.item_end_by-m.ensures).fits
 
 pub filled-requires : goal.filled-requires
 filled-requires c =
-    let h = (item_here _ _ _ _ _ c.loop-i.invariant.1.at c.loop-i-test.true c.item_end-m.ensures) in
+    let h = (item_here _ _ _ _ _ c.loop-i.invariant.1.at c.loop-i-test.true c.item_end_by-m.ensures) in
     holds_whole _ _ (ready_part _ _ _ _ h.count c.args.run.ready c.loop-i.invariant.1.at.holds h.words).holds
 
 pub loop-i-smaller : goal.loop-i-smaller
 loop-i-smaller c =
-    let h = (item_here _ _ _ _ _ c.loop-i.invariant.1.at c.loop-i-test.true c.item_end-m.ensures) in
+    let h = (item_here _ _ _ _ _ c.loop-i.invariant.1.at c.loop-i-test.true c.item_end_by-m.ensures) in
     let a = h.some in
     let b = h.fits in
     omega arith
@@ -46,7 +46,7 @@ loop-i-smaller c =
 pub loop-i-preserved : goal.loop-i-preserved
 loop-i-preserved c = (
   c.loop-i.invariant.0,
-  found_turn _ _ _ _ _ _ c.loop-i.invariant.1 (item_here _ _ _ _ _ c.loop-i.invariant.1.at c.loop-i-test.true c.item_end-m.ensures) c.args.run.ready (c.from-found.ensures ∙ filled-count _ c.filled.ensures) (omega (arith, c.if-found-gt1.false)),
+  found_turn _ _ _ _ _ _ c.loop-i.invariant.1 (item_here _ _ _ _ _ c.loop-i.invariant.1.at c.loop-i-test.true c.item_end_by-m.ensures) c.args.run.ready (c.from-found.ensures ∙ filled-count _ c.filled.ensures) (omega (arith, c.if-found-gt1.false)),
 )
 
 pub sets-preserved : goal.sets-preserved
@@ -59,5 +59,5 @@ returns-after-sets c = ap set_number c.sets.invariant.0 ∙ sets_end _ _ c.sets.
 
 pub returns-then-found-gt1 : goal.returns-then-found-gt1
 returns-then-found-gt1 c =
-    let two = found_two _ _ _ _ _ _ c.loop-i.invariant.1 (item_here _ _ _ _ _ c.loop-i.invariant.1.at c.loop-i-test.true c.item_end-m.ensures) c.args.run.ready (c.from-found.ensures ∙ filled-count _ c.filled.ensures) c.if-found-gt1.true in
+    let two = found_two _ _ _ _ _ _ c.loop-i.invariant.1 (item_here _ _ _ _ _ c.loop-i.invariant.1.at c.loop-i-test.true c.item_end_by-m.ensures) c.args.run.ready (c.from-found.ensures ∙ filled-count _ c.filled.ensures) c.if-found-gt1.true in
     set_at _ c.sets-test.true ∙ sets_stop _ _ c.sets.invariant.1 c.sets-test.true (subst (λ (n : ℕ). 1 < item_count n (run_of (tokens c.args.run.text.now c.args.run.table.now))) (set_at _ c.sets-test.true) two)
