@@ -1,16 +1,19 @@
-use mathlib.Core.Path.{ap, ◌∙◌}
-use mathlib.Core.List.{List, ◌++◌}
-use Prim.Native.Nat.{ℕ}
+use mathlib.Core.Path.{refl, sym, ap, ◌∙◌}
 use native.Mathlib.Omega.{arith}
-use lib.ListN.{drop}
-use Rattle.pen.proofs.Laws.{over_front}
+use lib.ListN.{length-set}
+use lib.Seq.{take_all}
+use Rattle.pen.specs.Over.{over}
+use Rattle.pen.proofs.Laws.{over-nil, over_step, over_clip}
 use Rattle.pen.proofs.put_all.Goals as goal
 
-pub returns : goal.returns
-returns c =
-    let args = c.args in
-    let fits = c.clip-fits in
-    record {
-      count = omega arith;
-      bytes = ap (λ (l : List ℕ). l ++ drop fits.result args.out.now) c.copy_from_slice.ensures.after ∙ over_front args.out.now args.text.now fits.result fits.ensures.place;
-    }
+pub loop-i-init : goal.loop-i-init
+loop-i-init c = (omega arith, refl, sym (over-nil _))
+
+pub loop-i-preserved : goal.loop-i-preserved
+loop-i-preserved c = (omega arith, simp length-set c.loop-i.invariant.1, rw c.loop-i.invariant.2 (over_step c.args.out.now c.args.text.now c.loop-i.i (omega arith) (omega arith)))
+
+pub returns-after-loop-i : goal.returns-after-loop-i
+returns-after-loop-i c = record { count = omega arith; bytes = c.loop-i.invariant.2 ∙ ap (over _) (take_all c.loop-i.i c.args.text.now (omega arith)) }
+
+pub returns-then-out-i : goal.returns-then-out-i
+returns-then-out-i c = record { count = omega arith; bytes = c.loop-i.invariant.2 ∙ over_clip c.args.out.now c.args.text.now c.loop-i.i (omega arith) }
