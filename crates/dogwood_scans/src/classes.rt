@@ -13,14 +13,19 @@ pub trait Class {
         ensures { ClassIs members c result };
 }
 
+#[derive(Clone, Copy)]
 pub struct Space;
 
+#[derive(Clone, Copy)]
 pub struct Word;
 
+#[derive(Clone, Copy)]
 pub struct Digit;
 // What may stand in a comment.
+#[derive(Clone, Copy)]
 pub struct Line;
 
+#[derive(Clone, Copy)]
 pub struct Other;
 
 impl Class for Space {
