@@ -22,7 +22,7 @@ impl Separator {
     ghost use Rattle.dogwood_runs.specs.Separators.{set_numbered};
 
     // The set of a number.
-    pub fn numbered(number: usize) -> Option<Separator>
+    pub(crate) fn numbered(number: usize) -> Option<Separator>
         ensures { result ≡ set_numbered number }
     {
         match number {
